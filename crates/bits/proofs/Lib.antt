@@ -1,0 +1,6 @@
+-- Arguments that the functions' proofs cite.
+pub mod Columns
+pub mod Reading
+pub mod Packing
+pub mod Leading
+pub mod Limbs

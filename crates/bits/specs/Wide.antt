@@ -1,0 +1,9 @@
+-- A number of two limbs of 64 places. Definitions only.
+use mathlib.Core.Path.{_≡_}
+use Prim.Native.Nat.{ℕ, _+_, _*_, _^_, _<_}
+
+-- n is high * 2 ^ 64 + low
+pub record Halves (n high low : ℕ) : Type 0 where
+  pub whole : high * 2 ^ 64 + low ≡ n
+  pub high-fits : high < 2 ^ 64
+  pub low-fits : low < 2 ^ 64

@@ -1,0 +1,33 @@
+//! The proved library, by its C names. Numbers go over as bit patterns, so that every NaN may.
+#![allow(dead_code)]
+
+mod raw {
+    #[link(name = "shuttlemint", kind = "static")]
+    unsafe extern "C" {
+        pub safe fn sm_magnitude(x: u64) -> u64;
+        pub safe fn sm_trunc(x: u64) -> u64;
+        pub safe fn sm_floor(x: u64) -> u64;
+        pub safe fn sm_round(x: u64) -> u64;
+        pub safe fn sm_root(x: u64) -> u64;
+        pub safe fn sm_fused(x: u64, y: u64, z: u64) -> u64;
+    }
+}
+
+pub fn single(name: &str, x: u64) -> u64 {
+    match name {
+        "magnitude" => raw::sm_magnitude(x),
+        "trunc" => raw::sm_trunc(x),
+        "floor" => raw::sm_floor(x),
+        "round" => raw::sm_round(x),
+        "root" => raw::sm_root(x),
+        _ => unreachable!(),
+    }
+}
+
+pub fn root(x: f64) -> f64 {
+    f64::from_bits(raw::sm_root(x.to_bits()))
+}
+
+pub fn fused([x, y, z]: [u64; 3]) -> u64 {
+    raw::sm_fused(x, y, z)
+}

@@ -1,4 +1,5 @@
 //! Bit patterns worth trying, in a fixed order: the same seed gives the same list on every machine.
+#![allow(dead_code)]
 
 /// SplitMix64 (Steele, Lea, Flood 2014).
 pub struct Random(pub u64);

@@ -1,6 +1,7 @@
 -- The flag `ltb 0 n`: whether anything of n is left. Assumes nothing.
 use mathlib.Core.Path.{_≡_, refl, sym, ap, _∙_, subst}
 use mathlib.Core.Bool.{Bool, true, false, not, _||_, _&&_}
+use mathlib.Core.Logic.{_⊎_, inl, inr}
 use Prim.Native.Nat.{ℕ, zero, suc, _+_, _-_, _*_, _≤_, _<_}
 use native.Mathlib.Nat.{le-trans, le-of-eq, lt-of-lt-of-le, mul-pos, zero-add}
 use native.Mathlib.Omega.{arith}
@@ -13,6 +14,14 @@ holds e = subst T (sym e) tt
 
 pub fails : {b : Bool} → b ≡ false → T (not b)
 fails e = subst (λ (b : Bool). T (not b)) (sym e) tt
+
+-- either of two numbers is the smaller, or they are equal
+pub lt-or-le : (a b : ℕ) → (a < b) ⊎ (b ≤ a)
+lt-or-le a b = go (ltb a b) (ltb→lt a b) (nltb→le a b)
+  where
+    go : (t : Bool) → (T t → a < b) → (T (not t) → b ≤ a) → (a < b) ⊎ (b ≤ a)
+    go true h k = inl (h tt)
+    go false h k = inr (k tt)
 
 pub is-some : (n : ℕ) → 0 < n → ltb 0 n ≡ true
 is-some n h = is-true (ltb 0 n) (lt→ltb 0 n h)

@@ -1,0 +1,129 @@
+-- `rootOf` and `fusedOf` by the kinds of their arguments, and by the parts of finite ones. Assumes nothing.
+use mathlib.Core.Path.{_≡_, refl, sym, ap, _∙_, subst}
+use mathlib.Core.Bool.{Bool, true, false, not, _&&_, _||_, Bool·beq, true≢false, false≢true}
+use Prim.Native.Nat.{ℕ, zero, suc, _+_, _-_, _*_, _/_, _%_, _^_, _≤_, _<_}
+use native.Mathlib.Nat.{lt-irrefl, mul-pos, mul-div-cancel, zero-lt-suc, pos-of-ne-zero, zero-mul, lt-of-lt-of-le, le-of-eq, mul-assoc, mul-comm, mul-left-comm}
+use native.Mathlib.Omega.{arith}
+use lib.Dec.{T, ltb, eqb, ltb→lt, lt→ltb, eqb→eq, lit<}
+use lib.IntN.{ℤ, pos}
+use lib.Pow.{pow-add, pow-pos}
+use lib.Ieee.{Float, nan, inf, fin, binary64, up, down, lt, eq, sum, unlike, add, mul}
+use lib.Ieee.Bits.{is-true}
+use lib.Ieee.Exact.{HasValue}
+use lib.Ieee.Fits.{up-pos, down-pos, and-l, and-i, eq→eqb}
+use lib.Ieee.Positive.{positive, first-pos, value-pos}
+use lib.Ieee.Scale.{finite}
+use Rattle.laws.specs.Flags.{holds}
+use Rattle.laws.specs.Sum.{sum-same}
+use Rattle.floor.specs.Root.{rootOf}
+use Rattle.floor.specs.Fused.{fusedOf}
+use Rattle.floor.specs.FusedLaws.{fused-fraction}
+
+-- ---- root: what the tests against zero say
+abbrev zero64 : Float
+zero64 = fin false 0 (pos 0)
+
+no-zero : (m : ℕ) (e : ℤ) → T (eqb (suc m * up e * 1) (0 * 1 * down e)) → ⊥
+no-zero m e t =
+    let h = eqb→eq (suc m * up e * 1) (0 * 1 * down e) t in
+    let p : 0 < suc m * up e = mul-pos (zero-lt-suc m) (up-pos e) in
+    omega arith
+
+pub root-zero : (x : Float) → eq x zero64 ≡ true → x ≡ rootOf x
+unfolding eq rootOf
+root-zero nan t = absurd (false≢true t)
+root-zero (inf s) t = absurd (false≢true t)
+root-zero (fin s zero e) t = refl
+root-zero (fin s (suc m) e) t = absurd (no-zero m e (and-l (eqb (suc m * up e * 1) (0 * 1 * down e)) _ (holds t)))
+
+pub root-negative : (x : Float) → lt x zero64 ≡ true → nan ≡ rootOf x
+unfolding lt rootOf
+root-negative nan t = absurd (false≢true t)
+root-negative (inf true) t = refl
+root-negative (inf false) t = absurd (false≢true t)
+root-negative (fin true zero e) t = absurd (let h = ltb→lt 0 (0 * up e * 1 + 0 * 1 * down e) (holds t) in let z : ⊥ = omega arith in z)
+root-negative (fin true (suc m) e) t = refl
+root-negative (fin false m e) t = absurd (let h = ltb→lt (m * up e * 1) (0 * 1 * down e) (holds t) in let z : ⊥ = omega arith in z)
+
+pub root-other : (x : Float) → lt x zero64 ≡ false → finite x ≡ false → x ≡ rootOf x
+unfolding lt rootOf
+root-other nan a b = refl
+root-other (inf true) a b = absurd (true≢false a)
+root-other (inf false) a b = refl
+root-other (fin s m e) a b = absurd (true≢false b)
+
+-- neither zero nor negative: above zero
+level-zero : (e : ℤ) (s : Bool) → eq (fin s zero e) zero64 ≡ true
+unfolding eq
+level-zero e s = go s (let z : 0 * up e * 1 ≡ 0 * 1 * down e = omega arith in z) (let z : 0 * up e * 1 ≡ 0 = omega arith in z)
+  where
+    go : (s : Bool) {p q : ℕ} → p ≡ q → p ≡ 0 → (eqb p q && (Bool·beq s false || eqb p 0)) ≡ true
+    go s {p} {q} e z = is-true (eqb p q && (Bool·beq s false || eqb p 0)) (and-i (eqb p q) (Bool·beq s false || eqb p 0) (eq→eqb e) (or-r (Bool·beq s false) (eqb p 0) (eq→eqb z)))
+      where
+        or-r : (a b : Bool) → T b → T (a || b)
+        or-r true b t = tt
+        or-r false b t = t
+
+below-zero : (m : ℕ) (e : ℤ) → lt (fin true (suc m) e) zero64 ≡ true
+unfolding lt
+below-zero m e = is-true (ltb 0 (suc m * up e * 1 + 0 * 1 * down e)) (lt→ltb 0 (suc m * up e * 1 + 0 * 1 * down e) (let p : 0 < suc m * up e = mul-pos (zero-lt-suc m) (up-pos e) in let z : 0 < suc m * up e * 1 + 0 * 1 * down e = omega arith in z))
+
+pub is-positive : (x : Float) → eq x zero64 ≡ false → lt x zero64 ≡ false → finite x ≡ true → T (positive x)
+is-positive nan a b f = absurd (false≢true f)
+is-positive (inf s) a b f = absurd (false≢true f)
+is-positive (fin s zero e) a b f = absurd (true≢false (sym (level-zero e s) ∙ a))
+is-positive (fin true (suc m) e) a b f = absurd (true≢false (sym (below-zero m e) ∙ b))
+is-positive (fin false (suc m) e) a b f = lt→ltb 0 (suc m) (zero-lt-suc m)
+
+pub some-digits : (x : Float) (s : Bool) (d e : ℕ) → T (positive x) → HasValue x s (d * 2 ^ e) (2 ^ 1074) → 0 < d
+some-digits x s d e p h = first-pos d (2 ^ e) (value-pos x (d * 2 ^ e) (2 ^ 1074) p (pow-pos 1074) (unsigned x p h))
+  where
+    unsigned : (x : Float) → T (positive x) → HasValue x s (d * 2 ^ e) (2 ^ 1074) → HasValue x false (d * 2 ^ e) (2 ^ 1074)
+    unsigned (fin true m e) p h = absurd p
+    unsigned (fin false m e) p h = (refl, h .1)
+
+-- ---- fused: of finite values, by their parts
+pub fused-finite : (x y z : Float) (nx ny nz : Bool) (sx ex sy ey sz ez : ℕ) → HasValue x nx (sx * 2 ^ ex) (2 ^ 1074) → HasValue y ny (sy * 2 ^ ey) (2 ^ 1074) → HasValue z nz (sz * 2 ^ ez) (2 ^ 1074)
+    → sum binary64 (unlike nx ny) (sx * sy * 2 ^ (ex + ey + 192)) nz (sz * 2 ^ (ez + 1266)) (2 ^ 2340) ≡ fusedOf x y z
+fused-finite x y z nx ny nz sx ex sy ey sz ez hx hy hz =
+    let L = 2 ^ 1074 in
+    sum-same binary64 (unlike nx ny) nz (sx * 2 ^ ex * (sy * 2 ^ ey) * L) (sz * 2 ^ ez * (L * L)) (L * L * L) (sx * sy * 2 ^ (ex + ey + 192)) (sz * 2 ^ (ez + 1266)) (2 ^ 2340)
+    (mul-pos (mul-pos (pow-pos 1074) (pow-pos 1074)) (pow-pos 1074)) (pow-pos 2340) (product-term 1074 1266 192 2340 refl refl) (addend-term 1074 1266 2340 refl)
+    ∙ sym (fused-fraction x y z nx ny nz (sx * 2 ^ ex) L (sy * 2 ^ ey) L (sz * 2 ^ ez) L (pow-pos 1074) (pow-pos 1074) (pow-pos 1074) hx hy hz)
+  where
+    product-term : (l b j t : ℕ) → b ≡ l + j → t ≡ l + b → sx * 2 ^ ex * (sy * 2 ^ ey) * 2 ^ l * 2 ^ t ≡ sx * sy * 2 ^ (ex + ey + j) * (2 ^ l * 2 ^ l * 2 ^ l)
+    product-term l b j t p q =
+        ap (λ (w : ℕ). sx * 2 ^ ex * (sy * 2 ^ ey) * 2 ^ l * w) (ap (λ (w : ℕ). 2 ^ w) (q ∙ ap (λ (w : ℕ). l + w) p) ∙ pow-add 2 l (l + j) ∙ ap (λ (w : ℕ). 2 ^ l * w) (pow-add 2 l j))
+        ∙ turn sx (2 ^ ex) sy (2 ^ ey) (2 ^ l) (2 ^ j)
+        ∙ ap (λ (w : ℕ). sx * sy * w * (2 ^ l * 2 ^ l * 2 ^ l)) (ap (λ (w : ℕ). w * 2 ^ j) (sym (pow-add 2 ex ey)) ∙ sym (pow-add 2 (ex + ey) j))
+      where
+        turn : (s X t Y L J : ℕ) → s * X * (t * Y) * L * (L * (L * J)) ≡ s * t * (X * Y * J) * (L * L * L)
+        turn s X t Y L J = simp (mul-assoc, mul-comm, mul-left-comm)
+
+    addend-term : (l b t : ℕ) → t ≡ l + b → sz * 2 ^ ez * (2 ^ l * 2 ^ l) * 2 ^ t ≡ sz * 2 ^ (ez + b) * (2 ^ l * 2 ^ l * 2 ^ l)
+    addend-term l b t q =
+        ap (λ (w : ℕ). sz * 2 ^ ez * (2 ^ l * 2 ^ l) * w) (ap (λ (w : ℕ). 2 ^ w) q ∙ pow-add 2 l b)
+        ∙ turn sz (2 ^ ez) (2 ^ l) (2 ^ b)
+        ∙ ap (λ (w : ℕ). sz * w * (2 ^ l * 2 ^ l * 2 ^ l)) (sym (pow-add 2 ez b))
+      where
+        turn : (s X L B : ℕ) → s * X * (L * L) * (L * B) ≡ s * (X * B) * (L * L * L)
+        turn s X L B = simp (mul-assoc, mul-comm, mul-left-comm)
+
+-- where one is not finite
+pub fused-addend : (x y z : Float) → finite x ≡ true → finite y ≡ true → finite z ≡ false → z ≡ fusedOf x y z
+unfolding fusedOf
+fused-addend nan y z a b c = absurd (false≢true a)
+fused-addend (inf s) y z a b c = absurd (false≢true a)
+fused-addend (fin s m e) nan z a b c = absurd (false≢true b)
+fused-addend (fin s m e) (inf t) z a b c = absurd (false≢true b)
+fused-addend (fin s m e) (fin t n d) nan a b c = refl
+fused-addend (fin s m e) (fin t n d) (inf u) a b c = refl
+fused-addend (fin s m e) (fin t n d) (fin u k g) a b c = absurd (true≢false c)
+
+pub fused-factor : (x y z : Float) → (finite x && finite y) ≡ false → add binary64 (mul binary64 x y) z ≡ fusedOf x y z
+unfolding fusedOf
+fused-factor nan y z a = unfold add mul in refl
+fused-factor (inf s) y z a = refl
+fused-factor (fin s m e) nan z a = unfold add mul in refl
+fused-factor (fin s m e) (inf t) z a = refl
+fused-factor (fin s m e) (fin t n d) z a = absurd (true≢false a)

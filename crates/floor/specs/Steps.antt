@@ -1,0 +1,45 @@
+-- What the steps of root and fused promise each other. Definitions only.
+use mathlib.Core.Path.{_≡_}
+use mathlib.Core.Bool.{Bool}
+use Prim.Native.Nat.{ℕ, _+_, _*_, _/_, _%_, _^_, _≤_, _<_}
+use lib.Dec.{ltb}
+
+-- a number of two limbs
+abbrev pub val : ℕ → ℕ → ℕ
+val high low = high * 2 ^ 64 + low
+
+-- ---- root
+-- r is the whole root of n, and rest what its square leaves
+pub record Root (n r rest : ℕ) : Type 0 where
+  pub sum : r * r + rest ≡ n
+  pub small : rest ≤ 2 * r
+
+-- sig * 2 ^ exp smallest values are radicand * 2 ^ 44 * 4 ^ half squares of the smallest value. With 63 or 64 digits of the radicand the root of radicand * 2 ^ 44 has 54.
+pub record Aligned (sig exp radicand half : ℕ) : Type 0 where
+  pub same : radicand * 2 ^ 44 * 4 ^ half ≡ sig * 2 ^ exp * 2 ^ 1074
+  pub least : 2 ^ 62 ≤ radicand
+  pub most : radicand < 2 ^ 64
+  pub scale : half ≤ 1600
+
+-- ---- fused
+-- sig * 2 ^ exp as digits * 2 ^ e' / 2 ^ 63: 63 digits, of which the lowest 10 are 0
+pub record Lifted (sig exp digits e' : ℕ) : Type 0 where
+  pub same : sig * 2 ^ exp * 2 ^ 63 ≡ digits * 2 ^ e'
+  pub most : digits < 2 ^ 63
+  pub round : digits % 2 ^ 10 ≡ 0
+  pub lead : 0 < sig → 2 ^ 62 ≤ digits
+  pub scale : e' ≤ exp + 63
+
+-- two limbs and an exponent: 125 to 127 digits, of which the lowest 20 are 0; zero has the exponent 0
+pub record Placed (high low e : ℕ) : Type 0 where
+  pub most : high < 2 ^ 63
+  pub fits : low < 2 ^ 64
+  pub round : val high low % 2 ^ 20 ≡ 0
+  pub lead : 0 < e → 2 ^ 124 ≤ val high low
+  pub zero : e ≡ 0 → val high low ≡ 0
+
+-- v without its lowest k digits, and whether any of those is set
+pub record Shifted (v k high low : ℕ) (more : Bool) : Type 0 where
+  pub whole : val high low ≡ v / 2 ^ k
+  pub rest : ltb 0 (v % 2 ^ k) ≡ more
+  pub fits : low < 2 ^ 64

@@ -10,6 +10,7 @@ mod raw {
         pub safe fn sm_round(x: u64) -> u64;
         pub safe fn sm_root(x: u64) -> u64;
         pub safe fn sm_fused(x: u64, y: u64, z: u64) -> u64;
+        pub fn sm_evaluate(function: u8, a: u64, b: u64, c: u64, out: *mut u64, len: usize) -> u8;
     }
 }
 
@@ -30,4 +31,12 @@ pub fn root(x: f64) -> f64 {
 
 pub fn fused([x, y, z]: [u64; 3]) -> u64 {
     raw::sm_fused(x, y, z)
+}
+
+/// Refusal number, first and second answer's patterns.
+pub fn evaluate(function: u8, a: u64, b: u64, c: u64) -> (u8, u64, u64) {
+    let mut out = [0u64; 2];
+    // SAFETY: the two numbers are lent for the call.
+    let refusal = unsafe { raw::sm_evaluate(function, a, b, c, out.as_mut_ptr(), out.len()) };
+    (refusal, out[0], out[1])
 }

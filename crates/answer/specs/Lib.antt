@@ -1,2 +1,3 @@
--- What the contracts cite.
+-- What the contracts cite, and what every answer is.
 pub mod Answer
+pub mod Sound

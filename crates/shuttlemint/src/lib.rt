@@ -1,9 +1,13 @@
-// The face for C and Rust: numbers go over as f64 bit patterns, so that every NaN pattern may.
+// The face for C and Rust. A float goes over as its bit pattern, so that every NaN pattern may; a slice as a pointer and a length.
+// No function asks anything of its caller: each refuses instead, by document 01's numbers.
 ghost use mathlib.Core.Path.{_≡_};
 ghost use lib.Ieee.{toBits, ofBits, binary64};
+ghost use lib.ListN.{length, take, drop};
 ghost use Rattle.floor.specs.Root.{rootOf};
 ghost use Rattle.floor.specs.Fused.{fusedOf};
 ghost use Rattle.floor.specs.Whole.{magnitudeOf, truncOf, floorOf, roundOf};
+ghost use Rattle.sheet.specs.Calls.{blankRefusal, blankOf, editRefusal, editOf, rowRefusal, readOf, totalRefusal, totalOf};
+ghost use Rattle.shuttlemint.specs.Face.{evaluateRefusal, evaluateOut, rowPlaceOf};
 
 #[no_mangle]
 pub extern "C" fn sm_magnitude(x: u64) -> u64
@@ -49,4 +53,67 @@ pub extern "C" fn sm_fused(x: u64, y: u64, z: u64) -> u64
         bits::from_pattern(y),
         bits::from_pattern(z),
     ))
+}
+
+// The function of this number; its two answers' patterns go to out[0] and out[1]. Another length of `out` is refused with 7.
+#[no_mangle]
+pub extern "C" fn sm_evaluate(function: u8, a: u64, b: u64, c: u64, out: &mut [u64]) -> u8
+    ensures { λ r. ⌜ (r ≡ evaluateRefusal (length (now (out .entry))) function a b c) × (now (out .exit) ≡ evaluateOut (now (out .entry)) function a b c) ⌝ }
+{
+    if out.len() != 2 {
+        return 7;
+    }
+    let z = answer::read(functions::evaluate(function, a, b, c));
+    out[0] = bits::to_pattern(z.first);
+    out[1] = bits::to_pattern(z.second);
+    z.refusal
+}
+
+#[no_mangle]
+pub extern "C" fn sm_blank(sheet: &mut [u8], rows: u32) -> u8
+    ensures { λ r. ⌜ (r ≡ blankRefusal (now (sheet .entry)) rows) × (now (sheet .exit) ≡ blankOf (now (sheet .entry)) rows) ⌝ }
+{
+    sheet::make_blank(sheet, rows)
+}
+
+#[no_mangle]
+pub extern "C" fn sm_edit(sheet: &mut [u8], row: u32, function: u8, a: u64, b: u64, c: u64) -> u8
+    ensures { λ r. ⌜ (r ≡ editRefusal (now (sheet .entry)) row function) × (now (sheet .exit) ≡ editOf (now (sheet .entry)) row function a b c) ⌝ }
+{
+    sheet::edit(sheet, row, function, a, b, c)
+}
+
+// Where the row's own 48 bytes start in the lent sheet; its length where the read is refused, so that no byte stands there.
+#[no_mangle]
+pub extern "C" fn sm_row_at(sheet: &[u8], row: u32) -> usize
+    ensures { λ r. ⌜ r ≡ rowPlaceOf (now (sheet .entry)) row ⌝ }
+{
+    if sheet::row_refusal(sheet, row) != 0 {
+        return sheet.len();
+    }
+    32 + 48 * (row as usize)
+}
+
+// 7 or 8, or 0: the row can be read.
+#[no_mangle]
+pub extern "C" fn sm_row_refusal(sheet: &[u8], row: u32) -> u8
+    ensures { λ r. ⌜ r ≡ rowRefusal (now (sheet .entry)) row ⌝ }
+{
+    sheet::row_refusal(sheet, row)
+}
+
+// The pattern of the total rounded once; +0 where `sm_total_refusal` is not 0.
+#[no_mangle]
+pub extern "C" fn sm_total(sheet: &[u8]) -> u64
+    ensures { λ r. ⌜ r ≡ toBits binary64 (totalOf (now (sheet .entry))) ⌝ }
+{
+    bits::to_pattern(sheet::total(sheet))
+}
+
+// 7, or 0: the bytes are a sheet.
+#[no_mangle]
+pub extern "C" fn sm_total_refusal(sheet: &[u8]) -> u8
+    ensures { λ r. ⌜ r ≡ totalRefusal (now (sheet .entry)) ⌝ }
+{
+    sheet::total_refusal(sheet)
 }

@@ -22,6 +22,19 @@ pub(crate) fn kind_of(name: &[u8]) -> u8 {
     if check::same(name, b"fused") {
         return 6;
     }
+    more_kinds(name)
+}
+
+fn more_kinds(name: &[u8]) -> u8 {
+    if check::same(name, b"complete") {
+        return 7;
+    }
+    if check::same(name, b"ellippi") {
+        return 8;
+    }
+    if check::same(name, b"ellipeinc") {
+        return 9;
+    }
     0
 }
 
@@ -29,10 +42,16 @@ pub(crate) fn kind_of(name: &[u8]) -> u8 {
 pub(crate) fn words(kind: u8) -> usize
     ensures { λ r. ⌜ (0 < r) × (r ≤ 6) ⌝ }
 {
+    if kind < 6 {
+        return 2;
+    }
     if kind == 6 {
         return 4;
     }
-    2
+    if kind == 7 {
+        return 6;
+    }
+    3
 }
 
 // The function of one argument.
@@ -52,6 +71,7 @@ fn single(kind: u8, x: f64) -> f64 {
     floor::root(x)
 }
 
+// Bit for bit.
 fn agrees_single(kind: u8, s: &[u8]) -> bool {
     let x = word(s, 0);
     let y = word(s, 17);
@@ -72,13 +92,48 @@ fn agrees_fused(s: &[u8]) -> bool {
     (x.good & y.good & z.good & w.good) & (bits::to_pattern(r) == w.value)
 }
 
-// Whether the line's answer comes out again, bit for bit.
+// K and E: the first word is function and refusal; bit for bit, refusals too.
+fn agrees_complete(s: &[u8]) -> bool {
+    let head = word(s, 0);
+    let m = word(s, 17);
+    let first = word(s, 68);
+    let second = word(s, 85);
+    let function = (head.value / 256 % 256) as u8;
+    let z = answer::read(functions::evaluate(function, m.value, 0, 0));
+    let refusal = (z.refusal as u64) == head.value % 256;
+    let values = (bits::to_pattern(z.first) == first.value)
+        & (bits::to_pattern(z.second) == second.value);
+    (head.good & m.good & first.good & second.good) & (refusal & values)
+}
+
+// Within 2^-36 of the reference, relative; a zero must be a zero.
+fn near(x: f64, reference: f64) -> bool {
+    floor::magnitude(x - reference) <= floor::magnitude(reference) * 1.4551915228366852e-11
+}
+
+fn agrees_near(kind: u8, s: &[u8]) -> bool {
+    let a = word(s, 0);
+    let b = word(s, 17);
+    let reference = word(s, 34);
+    let function = if kind == 8 { 4 } else { 5 };
+    let z = answer::read(functions::evaluate(function, a.value, b.value, 0));
+    let close = near(z.first, bits::from_pattern(reference.value));
+    (a.good & b.good & reference.good) & ((z.refusal == 0) & close)
+}
+
+// Whether the line's answer comes out again.
 pub(crate) fn agrees(kind: u8, s: &[u8]) -> bool {
     if kind == 0 {
         return false;
     }
     if kind == 6 {
         return agrees_fused(s);
+    }
+    if kind == 7 {
+        return agrees_complete(s);
+    }
+    if kind > 7 {
+        return agrees_near(kind, s);
     }
     agrees_single(kind, s)
 }

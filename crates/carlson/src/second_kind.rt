@@ -1,0 +1,98 @@
+// RD(x, y, z), in which z counts three times.
+use crate::Outcome;
+use crate::fifth;
+use crate::larger;
+ghost use mathlib.Core.Path.{_≡_};
+ghost use Rattle.carlson.specs.Rd.{startOf, stopsOf, roundOf, closedOf, rdOf};
+
+// `scale` is 4^-k after k rounds, `sum` what the rounds have added.
+pub(crate) struct State {
+    pub x: f64,
+    pub y: f64,
+    pub z: f64,
+    pub mean: f64,
+    pub distance: f64,
+    pub scale: f64,
+    pub sum: f64,
+}
+
+impl State {
+    fn start(x: f64, y: f64, z: f64) -> State
+        ensures { λ r. ⌜ r ≡ startOf x y z ⌝ }
+    {
+        let mean = (x + y + 3.0 * z) / 5.0;
+        let dx = floor::magnitude(mean - x);
+        let dy = floor::magnitude(mean - y);
+        let dz = floor::magnitude(mean - z);
+        let near = larger(dx, dy);
+        State {
+            x,
+            y,
+            z,
+            mean,
+            distance: larger(near, dz),
+            scale: 1.0,
+            sum: 0.0,
+        }
+    }
+
+    fn stops(self) -> bool
+        ensures { λ r. ⌜ r ≡ stopsOf self ⌝ }
+    {
+        self.distance < self.mean / 1024.0
+    }
+
+    fn round(self) -> State
+        ensures { λ r. ⌜ r ≡ roundOf self ⌝ }
+    {
+        let rx = floor::root(self.x);
+        let ry = floor::root(self.y);
+        let rz = floor::root(self.z);
+        let l = rx * ry + ry * rz + rz * rx;
+        State {
+            x: (self.x + l) / 4.0,
+            y: (self.y + l) / 4.0,
+            z: (self.z + l) / 4.0,
+            mean: (self.mean + l) / 4.0,
+            distance: self.distance / 4.0,
+            scale: self.scale / 4.0,
+            sum: self.sum + self.scale / (rz * (self.z + l)),
+        }
+    }
+
+    fn closed(self, rounds: usize) -> Outcome
+        ensures { λ r. ⌜ r ≡ closedOf self rounds ⌝ }
+    {
+        let x = (self.mean - self.x) / self.mean;
+        let y = (self.mean - self.y) / self.mean;
+        let z = -(x + y) / 3.0;
+        let xy = x * y;
+        let zz = z * z;
+        let series = fifth(
+            xy - 6.0 * zz,
+            (3.0 * xy - 8.0 * zz) * z,
+            3.0 * (xy - zz) * zz,
+            xy * zz * z,
+        );
+        let tail = self.scale * series / (self.mean * floor::root(self.mean));
+        Outcome {
+            value: tail + 3.0 * self.sum,
+            met: self.stops(),
+            rounds,
+            inside: 0,
+        }
+    }
+}
+
+pub fn rd(x: f64, y: f64, z: f64) -> Outcome
+    ensures { λ r. ⌜ r ≡ rdOf x y z ⌝ }
+{
+    let mut s = State::start(x, y, z);
+    for k in 0..64usize {
+        if s.stops() {
+            return s.closed(k);
+        }
+        s = s.round();
+    }
+    s.closed(64)
+}

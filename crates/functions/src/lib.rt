@@ -1,0 +1,41 @@
+// The functions by their numbers (01, "The leg sheet"): the one place that knows them.
+use answer::Amplitude;
+use answer::Answer;
+use answer::Characteristic;
+use answer::Parameter;
+ghost use mathlib.Core.Path.{_≡_};
+ghost use Rattle.functions.specs.Functions.{evaluateOf, usedOf};
+
+// The last function's number; above it is refusal 9.
+pub const LAST: u8 = 5;
+
+// How many of the three arguments the function of this number reads.
+pub fn used(function: u8) -> u8
+    ensures { λ r. ⌜ r ≡ usedOf function ⌝ }
+{
+    if function == 0 {
+        return 0;
+    }
+    if function <= 3 {
+        return 1;
+    }
+    2
+}
+
+// The function of this number at its arguments' bit patterns, which stand in the Rust's order.
+// Function 0, a blank row, has two zeros for its answers.
+pub fn evaluate(function: u8, a: u64, b: u64, c: u64) -> Answer
+    ensures { λ r. ⌜ r ≡ evaluateOf function a b c ⌝ }
+{
+    let x = bits::from_pattern(a);
+    let y = bits::from_pattern(b);
+    match function {
+        0 => Answer::One(0.0),
+        1 => legendre::ellipk(Parameter(x)),
+        2 => legendre::ellipe(Parameter(x)),
+        3 => legendre::ellipke(Parameter(x)),
+        4 => incomplete::ellippi(Characteristic(x), Parameter(y)),
+        5 => incomplete::ellipeinc(Amplitude(x), Parameter(y)),
+        _ => Answer::Refused(9),
+    }
+}

@@ -1,0 +1,69 @@
+-- Down 01's list of tests: the i-th return passed the tests before its own.
+use mathlib.Core.Path.{refl}
+use lib.Ieee.{nanBits}
+use Rattle.laws.specs.Ladder.{held, passed}
+use Rattle.incomplete.specs.Ellippi.{ellippiOf}
+use borrow.Author.Needs.{needs}
+use Rattle.incomplete.proofs.third_kind.ellippi.Statement.{statement}
+use Rattle.incomplete.proofs.third_kind.ellippi.Tie as tie
+
+returns : tie.Need-returns
+unfolding ellippiOf
+returns c =
+    let t1 = c in
+    held _ _ (t1 .if1 .taken) refl
+
+returns-2 : tie.Need-returns-2
+unfolding ellippiOf
+returns-2 c =
+    let t2 = c in
+    let t1 = t2 .before in
+    passed _ _ (t1 .if1 .left) (held _ _ (t2 .if2 .taken) refl)
+
+returns-3 : tie.Need-returns-3
+unfolding ellippiOf
+returns-3 c =
+    let t3 = c in
+    let t2 = t3 .before in
+    let t1 = t2 .before in
+    passed _ _ (t1 .if1 .left) (passed _ _ (t2 .if2 .left) (held _ _ (t3 .if3 .taken) refl))
+
+returns-4 : tie.Need-returns-4
+unfolding ellippiOf
+returns-4 c =
+    let t4 = c in
+    let t3 = t4 .before in
+    let t2 = t3 .before in
+    let t1 = t2 .before in
+    passed _ _ (t1 .if1 .left) (passed _ _ (t2 .if2 .left) (passed _ _ (t3 .if3 .left) (held _ _ (t4 .if4 .taken) refl)))
+
+float-from-bits-if5 : tie.Need-float-from-bits-if5
+unfolding nanBits
+float-from-bits-if5 c = tt
+
+float-from-bits-if5-2 : tie.Need-float-from-bits-if5-2
+unfolding nanBits
+float-from-bits-if5-2 c = tt
+
+returns-5 : tie.Need-returns-5
+unfolding ellippiOf
+returns-5 c =
+    let t5 = c in
+    let t4 = t5 .before in
+    let t3 = t4 .before in
+    let t2 = t3 .before in
+    let t1 = t2 .before in
+    passed _ _ (t1 .if1 .left) (passed _ _ (t2 .if2 .left) (passed _ _ (t3 .if3 .left) (passed _ _ (t4 .if4 .left) (held _ _ (t5 .if5 .taken) refl))))
+
+returns-6 : tie.Need-returns-6
+unfolding ellippiOf
+returns-6 c =
+    let t5 = c .before in
+    let t4 = t5 .before in
+    let t3 = t4 .before in
+    let t2 = t3 .before in
+    let t1 = t2 .before in
+    passed _ _ (t1 .if1 .left) (passed _ _ (t2 .if2 .left) (passed _ _ (t3 .if3 .left) (passed _ _ (t4 .if4 .left) (passed _ _ (t5 .if5 .left) (c .arms .ensures)))))
+
+pub ellippi-spec : {M : Type 1} → statement M
+ellippi-spec = tie.close (tie.spec returns returns-2 returns-3 returns-4 float-from-bits-if5 float-from-bits-if5-2 returns-5 (λ c κs. search needs) returns-6)

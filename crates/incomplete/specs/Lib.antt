@@ -1,0 +1,14 @@
+-- What the contracts cite.
+pub mod Settle
+pub mod Ellippi
+pub mod Ellipeinc
+-- what the code's tests say
+pub mod Tests
+-- what is proved of the definitions
+pub mod Magnitude
+pub mod Signs
+pub mod Cuts
+pub mod Angles
+pub mod Values
+pub mod Identities
+pub mod Corners

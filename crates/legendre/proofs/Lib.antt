@@ -1,0 +1,3 @@
+-- What more than one function's proof cites.
+mod Iteration
+mod Rows

@@ -1,0 +1,50 @@
+-- Below 18 a product is in range to be cut to a u64.
+use mathlib.Core.Path.{_≡_, sym, subst}
+use mathlib.Core.Bool.{true, false, _&&_}
+use Prim.Native.Nat.{ℕ, _+_, _*_, _^_, _<_}
+use native.Mathlib.Omega.{arith}
+use borrow.Author.Needs.{needs}
+use borrow.Author.Tests.{lt-ltb, le-ltb}
+use lib.Dec.{T, ltb→lt, lt→ltb}
+use lib.IntN.{pos}
+use lib.Ieee.{Float, nan, inf, fin, up, down, lt, neg, ofBits}
+use lib.Ieee.Fits.{and-l, and-r, down-pos}
+use Rattle.laws.specs.Arithmetic.{_⊗_, _<·_, 1·0, 20·0}
+use Rattle.legendre.specs.Piece.{18·0, truncatedOf, rowOf, pieceOf}
+use Rattle.legendre.proofs.coeffs.piece.Statement.{statement}
+use Rattle.legendre.proofs.coeffs.piece.Tie as tie
+
+in-range : (t : Float) → T (t <· 18·0) → T (t <· fin false 1 (pos 64))
+unfolding lt ofBits
+in-range nan h = h
+in-range (inf s) h = h
+in-range (fin true m e) h = lt→ltb 0 (m * up e * 1 + 1 * 2 ^ 64 * down e) (let d = down-pos e in omega arith)
+in-range (fin false m e) h = lt→ltb (m * up e * 1) (1 * 2 ^ 64 * down e) (let l = ltb→lt (m * up e * 1) (9 * 2 ^ 1 * down e) h in omega arith)
+
+both : (t : Float) → (neg 1·0 <· t && t <· 18·0) ≡ true → T (neg 1·0 <· t) × T (t <· fin false 1 (pos 64))
+both t e =
+    let h : T (neg 1·0 <· t && t <· 18·0) = subst T (sym e) tt in
+    (and-l (neg 1·0 <· t) (t <· 18·0) h, in-range t (and-r (neg 1·0 <· t) (t <· 18·0) h))
+
+truncating-f64-to-u64-requires : tie.Need-truncating-f64-to-u64-requires
+unfolding ofBits neg
+truncating-f64-to-u64-requires c κs = both (c .before .args .m ⊗ 20·0) (c .if1 .taken)
+
+returns : tie.Need-returns
+unfolding pieceOf truncatedOf rowOf
+returns c = simp (c .before .before .if1 .taken, ← c .before .truncating-f64-to-u64 .ensures, lt-ltb _ _ (c .if2 .taken))
+
+sub-result : tie.Need-sub-result
+sub-result c = search needs
+
+returns-2 : tie.Need-returns-2
+unfolding pieceOf truncatedOf rowOf
+returns-2 c = simp (c .before .before .if1 .taken, ← c .before .truncating-f64-to-u64 .ensures, le-ltb _ _ (c .if2 .left))
+
+returns-3 : tie.Need-returns-3
+unfolding pieceOf truncatedOf rowOf
+returns-3 c = simp (c .if1 .left)
+
+pub piece-spec : {M : Type 1} → statement M
+piece-spec =
+    tie.close (tie.spec truncating-f64-to-u64-requires returns sub-result returns-2 returns-3)

@@ -1,0 +1,27 @@
+-- What the contracts cite, in the files' order; then what is proved of it.
+pub mod Coeffs
+pub mod Polyeval
+pub mod Piece
+pub mod Mean
+pub mod Domain
+pub mod Decided
+pub mod Places
+pub mod Ellipk
+pub mod Ellipe
+pub mod Ellipke
+pub mod Corners
+pub mod Operations
+pub mod Beneath
+pub mod Sizes
+pub mod Bounds
+pub mod Rounds
+pub mod Starts
+pub mod Closing
+pub mod Polynomials
+pub mod Running
+pub mod Logarithms
+pub mod Values
+pub mod Ratios
+pub mod MeanRound
+pub mod StopTest
+pub mod Ends

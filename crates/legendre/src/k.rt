@@ -1,0 +1,82 @@
+// K(m), the complete elliptic integral of the first kind (ellipk.rs; DLMF 19.2.8). m ≤ 1: K(1) = ∞, K(-∞) = 0; m > 1 is refusal 2.
+use crate::PI;
+use crate::coeffs::centre;
+use crate::coeffs::k_piece;
+use crate::coeffs::piece;
+ghost use mathlib.Core.Path.{_≡_};
+ghost use Rattle.legendre.specs.Mean.{arithmeticOf, geometricOf, goesOnOf};
+ghost use Rattle.legendre.specs.Ellipk.{nextOf, lastMeansOf, kFromOf, kMeanOf, kBelowOneOf};
+
+pub(crate) fn arithmetic(x: f64, y: f64) -> f64
+    ensures { λ r. ⌜ r ≡ arithmeticOf x y ⌝ }
+{
+    (x + y) / 2.0
+}
+
+pub(crate) fn geometric(x: f64, y: f64) -> f64
+    ensures { λ r. ⌜ r ≡ geometricOf x y ⌝ }
+{
+    floor::root(x * y)
+}
+
+pub(crate) fn goes_on(tolerance: f64, x: f64, y: f64) -> bool
+    ensures { λ r. ⌜ r ≡ goesOnOf tolerance x y ⌝ }
+{
+    floor::magnitude(x - y) >= tolerance * floor::magnitude(x)
+}
+
+// The two means after some rounds.
+struct Means {
+    x: f64,
+    y: f64,
+}
+
+impl Means {
+    fn next(self) -> Means
+        ensures { λ r. ⌜ r ≡ nextOf self ⌝ }
+    {
+        Means {
+            x: arithmetic(self.x, self.y),
+            y: geometric(self.x, self.y),
+        }
+    }
+}
+
+fn last_means(y0: f64) -> Means
+    ensures { λ r. ⌜ r ≡ lastMeansOf y0 ⌝ }
+{
+    let mut s = Means { x: 1.0, y: y0 };
+    for k in 0..32usize {
+        if !goes_on(1e-7, s.x, s.y) {
+            return s;
+        }
+        s = s.next();
+    }
+    s
+}
+
+pub(crate) fn k_from(x: f64, y: f64) -> f64
+    ensures { λ r. ⌜ r ≡ kFromOf x y ⌝ }
+{
+    let diff = x - y;
+    let sum = x + y;
+    let corr = 1.0 - (diff * diff) / (4.0 * sum * sum);
+    PI / (sum * corr)
+}
+
+pub(crate) fn k_mean(y0: f64) -> f64
+    ensures { λ r. ⌜ r ≡ kMeanOf y0 ⌝ }
+{
+    let s = last_means(y0);
+    k_from(s.x, s.y)
+}
+
+pub(crate) fn k_below_one(m: f64) -> f64
+    ensures { λ r. ⌜ r ≡ kBelowOneOf m ⌝ }
+{
+    let i = piece(m);
+    if i < 10 {
+        return k_piece(i, m - centre(i));
+    }
+    k_mean(floor::root(1.0 - m))
+}

@@ -1,0 +1,72 @@
+// K(m) and E(m) together (ellipke.rs): a Pair always, (∞, 1) at m = 1 and (0, ∞) at -∞; m > 1 is refusal 2.
+use crate::ROOT_EPSILON;
+use crate::coeffs::centre;
+use crate::coeffs::e_piece;
+use crate::coeffs::k_piece;
+use crate::coeffs::piece;
+use crate::e::e_from;
+use crate::e::last_sums;
+use crate::e::near_one;
+use crate::k::k_from;
+use answer::Answer;
+ghost use mathlib.Core.Path.{_≡_};
+ghost use Rattle.legendre.specs.Ellipke.{bothMeanOf, bothBelowOneOf, scaledOf, bothNegativeOf, pairOf};
+
+pub(crate) struct Both {
+    pub(crate) k: f64,
+    pub(crate) e: f64,
+}
+
+fn both_mean(y0: f64) -> Both
+    ensures { λ r. ⌜ r ≡ bothMeanOf y0 ⌝ }
+{
+    let tolerance = ROOT_EPSILON;
+    let s = last_sums(tolerance, y0);
+    let k = k_from(s.x, s.y);
+    if y0 <= tolerance {
+        return Both {
+            k: k,
+            e: near_one(y0),
+        };
+    }
+    Both { k: k, e: e_from(s) }
+}
+
+pub(crate) fn both_below_one(m: f64) -> Both
+    ensures { λ r. ⌜ r ≡ bothBelowOneOf m ⌝ }
+{
+    let i = piece(m);
+    if i < 10 {
+        let delta = m - centre(i);
+        return Both {
+            k: k_piece(i, delta),
+            e: e_piece(i, delta),
+        };
+    }
+    both_mean(floor::root(1.0 - m))
+}
+
+fn scaled(c: f64, b: Both) -> Both
+    ensures { λ r. ⌜ r ≡ scaledOf c b ⌝ }
+{
+    Both {
+        k: b.k / c,
+        e: c * b.e,
+    }
+}
+
+pub(crate) fn both_negative(c: f64, m1: f64) -> Both
+    ensures { λ r. ⌜ r ≡ bothNegativeOf c m1 ⌝ }
+{
+    if m1 >= 0.9 {
+        // 1 - m1 = 1/c²: starting from 1/c avoids the cancellation.
+        return scaled(c, both_mean(1.0 / c));
+    }
+    scaled(c, both_below_one(m1))
+}
+
+pub(crate) fn pair(b: Both) -> Answer
+    ensures { λ r. ⌜ r ≡ pairOf b ⌝ }
+{
+    Answer::Pair(b.k, b.e)
+}

@@ -1,0 +1,103 @@
+-- What each call answers, and what it makes of the sheet's bytes (01, "The leg sheet", from "Calls" on). Definitions only.
+use Prim.Native.Nat.{ℕ, _+_, _-_, _/_}
+use mathlib.Core.Bool.{Bool, true, false, _&&_, _||_, not}
+use mathlib.Core.List.{List, [], _∷_}
+use lib.Dec.{leb, ltb, eqb}
+use lib.ListN.{length, take, drop, getD, set, replicate}
+use lib.Ieee.{Float}
+use Rattle.laws.specs.Arithmetic.{+0}
+use Rattle.laws.specs.Ladder.{when_gives_else_}
+use Rattle.functions.specs.Functions.{last}
+use Rattle.total.specs.Total.{addOf, takeOf, roundTotal}
+use Rattle.sheet.specs.Bytes.{number, read, splice}
+use Rattle.sheet.specs.Sheet.{Row, entries, sizeFor, mostRows, rowPlace, rowOf, blankRow, classOf, valueOf, sound, totals, encode}
+
+-- ---- what stands in bytes that may be a sheet
+
+unfoldable pub rowsIn : List ℕ → ℕ
+rowsIn s = (length s - 328) / 48
+
+unfoldable pub rowIn : List ℕ → ℕ → Row
+rowIn s i = take 48 (drop (rowPlace i) s)
+
+unfoldable pub countsIn : List ℕ → List ℕ
+countsIn s = read 4 5 (drop (rowPlace (rowsIn s)) s)
+
+unfoldable pub totalIn : List ℕ → ℕ
+totalIn s = number (take 272 (drop (rowPlace (rowsIn s) + 24) s))
+
+unfoldable pub equal : List ℕ → List ℕ → Bool
+equal [] [] = true
+equal [] (y ∷ ys) = false
+equal (x ∷ xs) [] = false
+equal (x ∷ xs) (y ∷ ys) = eqb x y && equal xs ys
+
+-- ---- refusals; 0: none
+
+-- refusal 7: length or contents are not those of a sheet
+unfoldable pub isSheet : List ℕ → Bool
+isSheet s = eqb (length s) (sizeFor (rowsIn s)) && (leb (rowsIn s) mostRows && equal (read 4 8 s) (entries (rowsIn s)))
+
+unfoldable pub plus : List ℕ → ℕ
+plus [] = 0
+plus (x ∷ xs) = x + plus xs
+
+-- refusal 10: the row to be replaced is damaged, or the counts do not add up, or the row's class counts 0
+unfoldable pub damaged : List ℕ → ℕ → Bool
+damaged s i = not (sound (rowIn s i)) || (not (eqb (plus (countsIn s)) (rowsIn s)) || eqb (getD (countsIn s) (classOf (rowIn s i)) 0) 0)
+
+unfoldable pub totalRefusal : List ℕ → ℕ
+totalRefusal s =
+    when not (isSheet s) gives 7 else
+    0
+
+unfoldable pub rowRefusal : List ℕ → ℕ → ℕ
+rowRefusal s i =
+    when not (isSheet s) gives 7 else
+    when leb (rowsIn s) i gives 8 else
+    0
+
+unfoldable pub editRefusal : List ℕ → ℕ → ℕ → ℕ
+editRefusal s i f =
+    when not (isSheet s) gives 7 else
+    when leb (rowsIn s) i gives 8 else
+    when ltb last f gives 9 else
+    when damaged s i gives 10 else
+    0
+
+unfoldable pub blankRefusal : List ℕ → ℕ → ℕ
+blankRefusal s r =
+    when ltb mostRows r gives 11 else
+    when not (eqb (length s) (sizeFor r)) gives 7 else
+    0
+
+-- ---- the calls
+
+unfoldable pub blankOf : List ℕ → ℕ → List ℕ
+blankOf s r = when eqb (blankRefusal s r) 0 gives encode (replicate r blankRow) else s
+
+-- one less of the old class, one more of the new
+unfoldable pub recount : List ℕ → ℕ → ℕ → List ℕ
+recount cs old new = let less = set cs old (getD cs old 0 - 1) in set less new (getD less new 0 + 1)
+
+-- row w in place of row i, and the totals with it
+unfoldable pub edited : List ℕ → ℕ → Row → List ℕ
+edited s i w =
+    let old = rowIn s i in
+    splice (splice s (rowPlace i) w) (rowPlace (rowsIn s))
+    (totals (recount (countsIn s) (classOf old) (classOf w)) (addOf (takeOf (totalIn s) (valueOf old)) (valueOf w)))
+
+unfoldable pub editOf : List ℕ → ℕ → ℕ → ℕ → ℕ → ℕ → List ℕ
+editOf s i f a b c = when eqb (editRefusal s i f) 0 gives edited s i (rowOf f a b c) else s
+
+-- the row's own bytes; none where the read is refused
+unfoldable pub readOf : List ℕ → ℕ → List ℕ
+readOf s i = when eqb (rowRefusal s i) 0 gives rowIn s i else []
+
+-- the total rounded once; +0 where it is refused
+unfoldable pub totalOf : List ℕ → Float
+totalOf s = when eqb (totalRefusal s) 0 gives roundTotal (totalIn s) else +0
+
+-- how many rows are of class k, by the sheet's own counts; 0 where it is refused
+unfoldable pub countOf : List ℕ → ℕ → ℕ
+countOf s k = when eqb (totalRefusal s) 0 gives getD (countsIn s) k 0 else 0

@@ -1,0 +1,59 @@
+-- The exact total (01, "The leg sheet"): a number of units of 2^-1074, kept modulo 2^2176 in two's complement, in 34 limbs of 64 bits, least limb first. Definitions only.
+use Prim.Native.Nat.{ℕ, zero, suc, _+_, _-_, _*_, _/_, _%_, _^_}
+use mathlib.Core.Bool.{Bool, true, false, cond}
+use mathlib.Core.List.{List, [], _∷_}
+use lib.Dec.{leb}
+use lib.Ieee.{Float, nan, inf, fin, up, down, neg, round, binary64}
+
+-- the modulus
+unfoldable pub N : ℕ
+N = 2 ^ 2176
+
+-- from here on a total stands for a negative number, v - N
+unfoldable pub Half : ℕ
+Half = 2 ^ 2175
+
+-- the number that limbs stand for
+unfoldable pub val : List ℕ → ℕ
+val [] = 0
+val (x ∷ xs) = x + 0x1_0000_0000_0000_0000 * val xs
+
+-- the k lowest limbs of a number
+unfoldable pub lowest : ℕ → ℕ → List ℕ
+lowest zero n = []
+lowest (suc k) n = n % 0x1_0000_0000_0000_0000 ∷ lowest k (n / 0x1_0000_0000_0000_0000)
+
+-- the limbs of a total
+unfoldable pub limbsOf : ℕ → List ℕ
+limbsOf n = lowest 34 n
+
+-- a number of units with its sign, in two's complement
+unfoldable pub signed : Bool → ℕ → ℕ
+signed s n = cond s (N - n) n
+
+-- a finite f64's sign, and its size in units of 2^-1074: a whole number (`whole` of Units)
+unfoldable pub negative : Float → Bool
+negative nan = false
+negative (inf s) = false
+negative (fin s m e) = s
+
+unfoldable pub sizeOf : Float → ℕ
+sizeOf nan = 0
+sizeOf (inf s) = 0
+sizeOf (fin s m e) = m * up e * 2 ^ 1074 / down e
+
+-- what a value adds to the total: nothing, where it is NaN or an infinity
+unfoldable pub unitsOf : Float → ℕ
+unitsOf x = signed (negative x) (sizeOf x) % N
+
+-- the total t with x added
+unfoldable pub addOf : ℕ → Float → ℕ
+addOf t x = (t + unitsOf x) % N
+
+-- and with x taken away, which is -x added
+unfoldable pub takeOf : ℕ → Float → ℕ
+takeOf t x = (t + unitsOf (neg x)) % N
+
+-- the total rounded once: to the nearest f64, ties to even, too large is infinite, zero is +0
+unfoldable pub roundTotal : ℕ → Float
+roundTotal v = cond (leb Half v) (round binary64 true (N - v) (2 ^ 1074)) (round binary64 false v (2 ^ 1074))

@@ -1,0 +1,58 @@
+// The exact total of a sheet: f64s added and taken away with no rounding, and rounded once when it is read.
+ghost use mathlib.Core.Path.{_≡_};
+ghost use Rattle.total.specs.Total.{val, limbsOf, addOf, takeOf, roundTotal};
+
+mod limbs;
+mod rounding;
+
+pub struct Total {
+    pub limbs: [u64; 34],
+}
+
+impl Total {
+    pub fn zero() -> Total
+        ensures { λ r. ⌜ (val (r .limbs) ≡ 0) × (r .limbs ≡ limbsOf 0) ⌝ }
+    {
+        Total { limbs: [0u64; 34] }
+    }
+
+    pub fn of(limbs: [u64; 34]) -> Total
+        ensures { λ r. ⌜ r .limbs ≡ limbs ⌝ }
+    {
+        Total { limbs: limbs }
+    }
+
+    // x added. NaN or an infinity leaves the total as it stands.
+    pub fn add(self, x: f64) -> Total
+        ensures { λ r. ⌜ (val (r .limbs) ≡ addOf (val (self .limbs)) x) × (r .limbs ≡ limbsOf (addOf (val (self .limbs)) x)) ⌝ }
+    {
+        let p = bits::parts(x);
+        let held = self.limbs;
+        let out = limbs::moved(held, p.digits, p.exponent, p.negative);
+        Total { limbs: out }
+    }
+
+    // x taken away, which undoes adding it.
+    pub fn take(self, x: f64) -> Total
+        ensures { λ r. ⌜ (val (r .limbs) ≡ takeOf (val (self .limbs)) x) × (r .limbs ≡ limbsOf (takeOf (val (self .limbs)) x)) ⌝ }
+    {
+        let p = bits::parts(x);
+        let held = self.limbs;
+        let out = limbs::moved(held, p.digits, p.exponent, !p.negative);
+        Total { limbs: out }
+    }
+
+    // The limbs, handed back.
+    pub fn limbs(self) -> [u64; 34]
+        ensures { λ r. ⌜ r ≡ self .limbs ⌝ }
+    {
+        self.limbs
+    }
+    // The total rounded once.
+    pub fn rounded(self) -> f64
+        ensures { λ r. ⌜ r ≡ roundTotal (val (self .limbs)) ⌝ }
+    {
+        let held = self.limbs;
+        rounding::round_limbs(held)
+    }
+}

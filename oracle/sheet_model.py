@@ -1,0 +1,307 @@
+#!/usr/bin/env python3
+"""sheet_model.py [SEED]: a model of the leg sheet in whole numbers, read from 01 alone, and a script of calls with the answers that it works out.
+
+The script goes to standard output, one call a line, fields one space apart, numbers in lower-case hex:
+
+  L length fill                      the buffer is now so many bytes, all equal to fill (8 and 2 digits)
+  M rows answer                      make_blank (8, 2)
+  E row function a b c answer        edit (8, 2, 16, 16, 16, 2)
+  C row answer                       clear (8, 2)
+  P place byte                       the byte at this place is set: damage, or its repair (8, 2)
+  R row answer bytes                 row_refusal, and read_row's bytes in hex, or - for an empty part (8, 2, 96 or 1)
+  T answer pattern                   total_refusal, and total as a bit pattern (2, 16)
+  N class count                      count (2, 8)
+  S sum                              the whole buffer as one number, first byte highest, modulo 2^55 - 55 (16)
+
+Whoever replays it compares each answer, and each S with the bytes of its own buffer. The functions are used only where 01 names the answer (ellipeinc at m = 0 or
+at an angle of 0 or beyond, the others at their ends and refusals), so the model holds no elliptic integral."""
+import random, struct, sys
+
+MOST_ROWS, ROW, TOTALS = 1024, 48, 296
+NAN, PLUS, MINUS = 0x7ff8000000000000, 0x7ff0000000000000, 0xfff0000000000000
+ONE, TOP, SIGN = 0x3ff0000000000000, 0x7fefffffffffffff, 1 << 63
+MODULUS = 1 << 2176
+
+
+# ---- bit patterns
+
+def is_nan(p): return p % SIGN > PLUS
+def is_infinite(p): return p % SIGN == PLUS
+def key(p): return -(p % SIGN) if p >= SIGN else p          # orders the patterns that are no NaN as their values; both zeros are 0
+
+
+def units(p):
+    """A finite value in units of 2^-1074."""
+    field, digits = p >> 52 & 0x7ff, p % (1 << 52)
+    size = digits if field == 0 else (digits + (1 << 52)) << field - 1
+    return -size if p >= SIGN else size
+
+
+def rounded(n):
+    """n units of 2^-1074 as the nearest f64's pattern: ties to even, too large is infinite, zero is +0."""
+    sign, n = (SIGN, -n) if n < 0 else (0, n)
+    drop = max(n.bit_length() - 53, 0)
+    digits, rest = n >> drop, n & (1 << drop) - 1
+    if drop and (2 * rest > 1 << drop or 2 * rest == 1 << drop and digits & 1): digits += 1
+    pattern = (drop << 52) + digits                             # a carry into the exponent's field falls into place
+    return sign + min(pattern, PLUS)
+
+
+# ---- 01's answers: (refusal, first, second), or None where 01 leaves them to the recipes
+
+USED = {0: 0, 1: 1, 2: 1, 3: 1, 4: 2, 5: 2}
+
+
+def evaluate(f, a, b):
+    if f == 0: return 0, 0, 0
+    if f in (1, 2, 3):
+        if is_nan(a): return 1, 0, 0
+        if key(a) > key(ONE): return 2, 0, 0
+        if a == ONE: return {1: (0, PLUS, 0), 2: (0, ONE, 0), 3: (0, PLUS, ONE)}[f]
+        if a == MINUS: return {1: (0, 0, 0), 2: (0, PLUS, 0), 3: (0, 0, PLUS)}[f]
+        return None
+    if f == 4:
+        n, m = a, b
+        if is_nan(n) or is_nan(m): return 1, 0, 0
+        if key(m) > key(ONE): return 2, 0, 0
+        if n == ONE: return 4, 0, 0
+        if m == ONE: return 0, MINUS if key(n) > key(ONE) else PLUS, 0
+        if n == MINUS or m == MINUS: return 0, 0, 0
+        return None
+    phi, m = a, b
+    if phi % SIGN == 0: return 0, 0, 0
+    if m % SIGN == 0: return (1, 0, 0) if is_nan(phi) else (0, phi, 0)
+    if not is_nan(phi) and phi % SIGN >= TOP: return 0, MINUS if phi >= SIGN else PLUS, 0
+    if is_nan(phi): return (2 if not is_nan(m) and key(m) > key(ONE) else 1), 0, 0
+    if is_nan(m): return 1, 0, 0
+    return None
+
+
+# ---- the sheet
+
+def u32(*xs): return struct.pack('<%dI' % len(xs), *xs)
+def contents(r): return u32(1, 32, 48 * r, r, 2, 32 + 48 * r, 296, 1)
+
+
+class Sheet:
+    def __init__(self, length, fill): self.b = bytearray([fill]) * length
+
+    def rows(self):
+        """How many rows, or None where the bytes are no sheet."""
+        r, rest = divmod(len(self.b) - 328, 48)
+        if rest or not 0 <= r <= MOST_ROWS or self.b[:32] != contents(r): return None
+        return r
+
+    def make(self, r):
+        if r > MOST_ROWS: return 11
+        if len(self.b) != 328 + 48 * r: return 7
+        self.b[:] = contents(r) + bytes(48 * r) + u32(r) + bytes(292)
+        return 0
+
+    def row(self, i): return self.b[32 + 48 * i:80 + 48 * i]
+    def counts(self, r): return list(struct.unpack_from('<5I', self.b, 32 + 48 * r))
+    def number(self, r): return int.from_bytes(self.b[56 + 48 * r:328 + 48 * r], 'little')
+
+    @staticmethod
+    def share(row):
+        """A row's class (0 blank, 1 finite, 2 +∞, 3 -∞, 4 refused, None) and what it brings to the total."""
+        first, = struct.unpack_from('<Q', row, 32)
+        if row[0] == 0: return 0, 0
+        if row[1] != 0: return 4, 0
+        if is_nan(first): return None, 0
+        if is_infinite(first): return 2 + (first >= SIGN), 0
+        return 1, units(first)
+
+    def edit(self, i, f, a, b, c):
+        r = self.rows()
+        if r is None: return 7
+        if i >= r: return 8
+        if f > 5: return 9
+        row, counts = self.row(i), self.counts(r)
+        first, = struct.unpack_from('<Q', row, 32)
+        old, value = self.share(row)
+        if row[0] > 5 or row[1] > 6 or is_nan(first) or sum(counts) != r or counts[old] == 0: return 10
+        args = [x if k < USED[f] else 0 for k, x in enumerate((a, b, c))]
+        q, x, y = evaluate(f, args[0], args[1])
+        new_row = bytes([f, q]) + bytes(6) + struct.pack('<5Q', *args, x, y)
+        new, added = self.share(new_row)
+        counts[old] -= 1
+        counts[new] += 1
+        total = (self.number(r) - value + added) % MODULUS
+        self.b[32 + 48 * i:80 + 48 * i] = new_row
+        self.b[32 + 48 * r:] = u32(*counts, 0) + total.to_bytes(272, 'little')
+        return 0
+
+    def read(self, i):
+        r = self.rows()
+        if r is None: return 7, b''
+        if i >= r: return 8, b''
+        return 0, bytes(self.row(i))
+
+    def total(self):
+        r = self.rows()
+        if r is None: return 7, 0
+        n = self.number(r)
+        return 0, rounded(n - MODULUS if n >= MODULUS >> 1 else n)
+
+    def count(self, k):
+        r = self.rows()
+        return 0 if r is None or k > 4 else self.counts(r)[k]
+
+    def sum(self): return int.from_bytes(self.b, 'big') % ((1 << 55) - 55)
+
+
+# ---- the script
+
+out = []
+sheet = None
+
+
+def new(length, fill=0):
+    global sheet
+    sheet = Sheet(length, fill)
+    out.append('L %08x %02x' % (length, fill))
+
+
+def make(r): out.append('M %08x %02x' % (r, sheet.make(r)))
+
+
+def edit(i, f, a=0, b=0, c=0):
+    if f <= 5 and evaluate(f, a, b) is None: raise ValueError('01 does not name this answer: %d %x %x' % (f, a, b))
+    out.append('E %08x %02x %016x %016x %016x %02x' % (i, f, a, b, c, sheet.edit(i, f, a, b, c)))
+
+
+def clear(i): out.append('C %08x %02x' % (i, sheet.edit(i, 0, 0, 0, 0)))
+
+
+def poke(p, x):
+    sheet.b[p] = x
+    out.append('P %08x %02x' % (p, x))
+
+
+def read(i):
+    q, w = sheet.read(i)
+    out.append('R %08x %02x %s' % (i, q, w.hex() or '-'))
+
+
+def total(): out.append('T %02x %016x' % sheet.total())
+def count(k): out.append('N %02x %08x' % (k, sheet.count(k)))
+def check(): out.append('S %016x' % sheet.sum())
+
+
+def all_reads(rows):
+    total()
+    for k in range(6): count(k)
+    for i in rows: read(i)
+    check()
+
+
+def value(rng):
+    """A double, of any size; ends and ties are common."""
+    kind = rng.randrange(8)
+    if kind == 0: return rng.choice([0, SIGN, 1, SIGN + 1, TOP, SIGN + TOP, PLUS, MINUS, NAN, ONE, SIGN + ONE, 0x7cb0000000000000])
+    if kind == 1: return rng.randrange(1 << 52) + SIGN * rng.randrange(2)
+    if kind < 5: return (rng.randrange(1, 2047) << 52) + rng.randrange(1 << 52) + SIGN * rng.randrange(2)
+    return (rng.randrange(1000, 1050) << 52) + (rng.randrange(16) << 48) + SIGN * rng.randrange(2)
+
+
+CORNERS = [(1, ONE, 0), (1, MINUS, 0), (1, NAN, 0), (1, ONE + 1, 0), (2, ONE, 0), (2, MINUS, 0), (2, NAN, 0), (2, PLUS, 0), (3, ONE, 0), (3, MINUS, 0), (3, NAN, 0), (3, ONE + 1, 0),
+           (4, ONE, ONE), (4, 0x4000000000000000, ONE), (4, 0x3fe0000000000000, ONE), (4, NAN, 0), (4, 0, NAN), (4, ONE, 0x3ff8000000000000), (4, MINUS, 0), (4, 0, MINUS), (4, MINUS, ONE), (4, PLUS, ONE),
+           (5, 0, NAN), (5, SIGN, PLUS), (5, TOP, NAN), (5, SIGN + TOP, ONE), (5, MINUS, MINUS), (5, NAN, PLUS), (5, NAN, NAN), (5, NAN, 0), (5, ONE, NAN), (5, MINUS, 0), (5, TOP, SIGN)]
+
+
+def any_edit(rng, rows):
+    i = rng.choice([rng.randrange(rows) if rows else 0] * 9 + [rows])
+    pick = rng.randrange(12)
+    if pick == 0: clear(i)
+    elif pick == 1: edit(i, rng.choice([0, 6, 7, 255]), value(rng), value(rng), value(rng))
+    elif pick < 5: f, a, b = rng.choice(CORNERS); edit(i, f, a, b, value(rng))
+    else: edit(i, 5, value(rng), rng.choice([0, SIGN]), value(rng))
+
+
+def example():
+    """01's example, and the sheet of docs/SHEET.md."""
+    new(520); make(4)
+    edit(0, 3, ONE); edit(1, 5, 0, NAN); edit(2, 4, ONE, ONE); edit(3, 5, 0x4000000000000000, 0)
+    all_reads(range(5))
+    new(424); make(2)
+    edit(0, 5, 0xbff8000000000000, 0, 7); edit(1, 4, ONE, ONE)
+    all_reads(range(2))
+
+
+def sizes(rng):
+    for r in (0, 1, 1024, 1025, 1026, 0xffffffff):
+        for length in (328 + 48 * r, 328 + 48 * r - 1, 328 + 48 * r + 1):
+            if length > 328 + 48 * 1025 + 1: length = 328
+            new(length, 0xa5); make(r); all_reads([0, 1])
+            edit(0, 5, ONE, 0); clear(0); check()
+    for length in (0, 1, 31, 32, 327, 328 + 47, 328 + 49):
+        new(length, 1); make(0); make(1); all_reads([0]); edit(0, 0); check()
+
+
+def damage(rng):
+    """Each byte of the contents and of the totals of a sheet of one row, one at a time; then the row's own."""
+    for p in list(range(32)) + list(range(80, 376)) + list(range(32, 80)):
+        new(376); make(1); edit(0, 5, value(rng) % SIGN % PLUS or 1, 0)
+        poke(p, sheet.b[p] ^ rng.choice([1, 2, 0x80, 0xff]))
+        total(); read(0); edit(0, 5, value(rng), 0); total(); check()
+
+
+def repaired(rng):
+    """Counts that are moved about and still add up, a class that counts 0, and repairs."""
+    for old in range(5):
+        for k in range(5):
+            new(376 + 48); make(2)
+            f, a, b = [(0, 0, 0), (5, ONE, 0), (1, ONE, 0), (4, PLUS, ONE), (4, ONE, ONE)][old]
+            edit(0, f, a, b)
+            at = 128
+            for place in range(5): poke(at + 4 * place, 2 * (place == k))
+            edit(0, 5, 0x4000000000000000, 0); check(); all_reads([0])
+
+
+def orders(rng):
+    """Twice the same edits, the second time in another order, with rows edited in between: the bytes are the same."""
+    for r in (3, 40):
+        edits = [(i, value(rng)) for i in range(r)]
+        for turn in range(2):
+            new(328 + 48 * r); make(r)
+            for i, x in edits:
+                if turn: edit(i, 5, value(rng), 0)
+                edit(i, 5, x, 0)
+            all_reads([0, r - 1]); rng.shuffle(edits)
+
+
+def ties(rng):
+    """Totals at the rounding's edges: halves, overflow, subnormals, signs."""
+    half = 0x7c90000000000000                                   # 2^970, half of the last place of the largest
+    for xs in ([TOP, half], [TOP, half - 1], [SIGN + TOP, SIGN + half], [TOP, TOP], [TOP, SIGN + TOP], [TOP, TOP, SIGN + TOP], [1, 1], [SIGN + 1, SIGN + 1], [1, SIGN + 1],
+               [0x4340000000000000, ONE], [0x4340000000000000, ONE, 1], [0x4340000000000001, ONE], [0x4340000000000000, SIGN + ONE, 1], [TOP, half, SIGN + 1], [0x0010000000000000, SIGN + 1], [SIGN, SIGN]):
+        new(328 + 48 * len(xs)); make(len(xs))
+        for i, x in enumerate(xs): edit(i, 5, x, 0); total()
+        for i in range(len(xs)): clear(i); total()
+        check()
+    new(328 + 48 * 1024); make(1024)
+    for i in range(1024):
+        edit(i, 5, SIGN + TOP, 0)
+        if i % 128 == 127: total()
+    all_reads([0, 1023, 1024])
+
+
+def wander(rng):
+    for r, n in ((1, 60), (5, 400), (32, 300), (1024, 400)):
+        new(328 + 48 * r); make(r)
+        for k in range(n):
+            any_edit(rng, r)
+            if k % 10 == 9: total()
+            if k % 50 == 49: all_reads([rng.randrange(r), r])
+
+
+def main():
+    rng = random.Random(int(sys.argv[1]) if len(sys.argv) > 1 else 1)
+    for part in (example, sizes, repaired, orders, ties, wander, damage):
+        if part is example: part()
+        else: part(rng)
+    print('\n'.join(out))
+
+
+if __name__ == '__main__': main()

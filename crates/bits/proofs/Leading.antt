@@ -1,13 +1,13 @@
 -- What a number rounds to, from its leading 64 digits: d of them are dropped (`Drop`). Assumes nothing.
-use mathlib.Core.Path.{_≡_, refl, sym, ap, _∙_, subst}
+use mathlib.Core.Path.{_≡_, sym, ap, _∙_, subst}
 use mathlib.Core.Logic.{_⊎_, inl, inr}
 use mathlib.Core.Bool.{Bool, _||_}
-use Prim.Native.Nat.{ℕ, zero, suc, _+_, _-_, _*_, _/_, _%_, _^_, _≤_, _<_, Ordering}
-use native.Mathlib.Nat.{le-trans, le-of-eq, lt-of-lt-of-le, eq-or-lt-of-le, le-div-iff-mul-le, div-eq-of-lt}
+use Prim.Native.Nat.{ℕ, suc, _+_, _-_, _/_, _%_, _^_, _≤_, _<_, Ordering}
+use native.Mathlib.Nat.{lt-of-lt-of-le, eq-or-lt-of-le, le-div-iff-mul-le, div-eq-of-lt}
 use native.Mathlib.Omega.{arith}
 use lib.Dec.{ltb, lit<}
 use lib.Pow.{pow-pos, pow-mono, shr-lt}
-use lib.Ieee.{binary64, size, nearest, units, round}
+use lib.Ieee.{binary64, nearest, units, round}
 use lib.Ieee.Fits.{nearest-le}
 use lib.Ieee.Nearest.{nearest-ge}
 use Rattle.laws.specs.Digits.{size-exact}

@@ -1,14 +1,14 @@
 -- The leading 64 digits of two limbs, and the three limbs of `round_limbs`. Assumes nothing.
 use mathlib.Core.Path.{_≡_, refl, sym, ap, _∙_, subst}
-use mathlib.Core.Bool.{Bool, true, false, _||_, cond}
-use Prim.Native.Nat.{ℕ, zero, suc, _+_, _-_, _*_, _/_, _%_, _^_, _≤_, _<_}
-use native.Mathlib.Nat.{le-trans, le-of-eq, lt-of-lt-of-le, lt-irrefl, le-add-right, add-comm, mul-one, mul-assoc, mul-comm, mul-left-comm, mod-eq-of-lt, mul-add-div-right, mul-add-mod-self-right, zero-mul}
+use mathlib.Core.Bool.{Bool, true, false, cond, _||_}
+use Prim.Native.Nat.{ℕ, suc, _+_, _-_, _*_, _/_, _%_, _^_, _≤_, _<_}
+use native.Mathlib.Nat.{le-of-eq, lt-of-lt-of-le, add-comm, mul-one, mul-assoc, mul-comm, mul-left-comm, mod-eq-of-lt, mul-add-div-right, mul-add-mod-self-right, zero-mul}
 use native.Mathlib.Omega.{arith}
 use lib.Count.{leadingZeros}
 use lib.Dec.{ltb}
 use lib.Pow.{pow-add, pow-pos, shr-lt, high, low}
 use lib.Ieee.{Float, binary64, round, units}
-use Rattle.laws.specs.Digits.{Length, length, moved, zeros-lt}
+use Rattle.laws.specs.Digits.{length, moved, zeros-lt}
 use Rattle.bits.specs.Rounded.{Kept, roundedOf}
 use Rattle.bits.specs.Steps.{spare}
 use Rattle.bits.specs.Keeping.{kept-cut, kept-self, kept-scaled}
@@ -22,10 +22,10 @@ no-zeros h p a e =
     let q : h * 2 ^ leadingZeros 64 h ≡ h = ap (λ (z : ℕ). h * 2 ^ z) e ∙ mul-one h in
     omega arith
 
-pub kept-top : (n h l e : ℕ) (m b : Bool) → l < 2 ^ 64 → b ≡ (m || ltb 0 l) → Kept n (h * 2 ^ 64 + l) e m → Kept n h (e + 64) b
-kept-top n h l e m b L g k =
-    subst (λ (x : ℕ). Kept n h x b) (add-comm 64 e)
-    (subst (λ (x : Bool). Kept n h (64 + e) x) (ap (λ (x : ℕ). m || ltb 0 x) (low h 64 L) ∙ sym g)
+pub kept-top : (n h l e : ℕ) (m : Bool) → l < 2 ^ 64 → Kept n (h * 2 ^ 64 + l) e m → Kept n h (e + 64) (m || ltb 0 l)
+kept-top n h l e m L k =
+    subst (λ (x : ℕ). Kept n h x (m || ltb 0 l)) (add-comm 64 e)
+    (subst (λ (x : Bool). Kept n h (64 + e) x) (ap (λ (x : ℕ). m || ltb 0 x) (low h 64 L))
     (subst (λ (x : ℕ). Kept n x (64 + e) (m || ltb 0 ((h * 2 ^ 64 + l) % 2 ^ 64))) (high h 64 L) (kept-cut n (h * 2 ^ 64 + l) e 64 m k)))
 
 -- ---- z zeros: its digits move up by z, and the upper z digits of the lower limb come in
@@ -57,10 +57,10 @@ module _ (h l z : ℕ) (p : 0 < h) (a : h < 2 ^ 64) (b : l < 2 ^ 64) (q : z ≡ 
   cut-rest : (h * 2 ^ 64 + l) % 2 ^ (64 - z) ≡ l % 2 ^ (64 - z)
   cut-rest = ap (λ (x : ℕ). x % 2 ^ (64 - z)) shifted ∙ mul-add-mod-self-right (h * 2 ^ z) (2 ^ (64 - z)) l
 
-  pub kept-lead : (n e c r : ℕ) (m d : Bool) → c ≡ l / 2 ^ (64 - z) → r ≡ l % 2 ^ (64 - z) → d ≡ (m || ltb 0 r) → Kept n (h * 2 ^ 64 + l) e m → Kept n (h * 2 ^ z % 2 ^ 64 + c) (e + (64 - z)) d
-  kept-lead n e c r m d ec er ed k =
-      subst (λ (x : ℕ). Kept n (h * 2 ^ z % 2 ^ 64 + c) x d) (add-comm (64 - z) e)
-      (subst (λ (x : Bool). Kept n (h * 2 ^ z % 2 ^ 64 + c) (64 - z + e) x) (ap (λ (x : ℕ). m || ltb 0 x) (cut-rest ∙ sym er) ∙ sym ed)
+  pub kept-lead : (n e c r : ℕ) (m : Bool) → c ≡ l / 2 ^ (64 - z) → r ≡ l % 2 ^ (64 - z) → Kept n (h * 2 ^ 64 + l) e m → Kept n (h * 2 ^ z % 2 ^ 64 + c) (e + (64 - z)) (m || ltb 0 r)
+  kept-lead n e c r m ec er k =
+      subst (λ (x : ℕ). Kept n (h * 2 ^ z % 2 ^ 64 + c) x (m || ltb 0 r)) (add-comm (64 - z) e)
+      (subst (λ (x : Bool). Kept n (h * 2 ^ z % 2 ^ 64 + c) (64 - z + e) x) (ap (λ (x : ℕ). m || ltb 0 x) (cut-rest ∙ sym er))
       (subst (λ (x : ℕ). Kept n x (64 - z + e) (m || ltb 0 ((h * 2 ^ 64 + l) % 2 ^ (64 - z)))) (cut-whole ∙ (λ i. sym whole i + sym ec i)) (kept-cut n (h * 2 ^ 64 + l) e (64 - z) m k)))
 
 -- ---- three limbs: high, low, and the half of a last place; the first that is not 0 leads

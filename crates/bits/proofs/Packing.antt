@@ -3,11 +3,11 @@ use mathlib.Core.Path.{_≡_, refl, sym, ap, _∙_, subst}
 use mathlib.Core.Logic.{_⊎_, inl, inr}
 use mathlib.Core.Bool.{Bool, true, false, not, cond}
 use Prim.Native.Nat.{ℕ, zero, suc, _+_, _-_, _*_, _/_, _%_, _^_, _≤_, _<_}
-use native.Mathlib.Nat.{le-trans, le-of-eq, le-refl, le-antisymm, lt-of-lt-of-le, lt-of-le-of-lt, eq-or-lt-of-le, eq-zero-or-pos, mul-assoc, mul-comm, add-assoc, mul-div-cancel, mul-le-mul-right, le-of-mul-le-mul-right, pow-suc}
+use native.Mathlib.Nat.{le-trans, le-of-eq, le-refl, le-antisymm, lt-of-le-of-lt, eq-or-lt-of-le, eq-zero-or-pos, mul-assoc, mul-comm, add-assoc, mul-div-cancel, mul-le-mul-right, le-of-mul-le-mul-right, pow-suc}
 use native.Mathlib.Omega.{arith}
 use lib.Dec.{T, ltb, lt→ltb, ltb→lt, nltb→le, lit≤}
 use lib.Pow.{pow-add, pow-pos, pow-mono, pow-lt, shl-lt}
-use lib.Ieee.{Float, inf, fin, Format, binary64, prec, emax, low, up, down, size, odd, units, fits, isNan, hid, ones, top, ofBits, nanBits, toBits}
+use lib.Ieee.{Float, inf, fin, Format, binary64, prec, low, up, down, size, odd, units, fits, isNan, hid, ones, top, ofBits, nanBits, toBits}
 use lib.Ieee.Bits.{ofBits-toBits, nanBits-is, is-true}
 use lib.Ieee.Digits.{size-le}
 use lib.Ieee.Exact.{HasValue, units-val}

@@ -1,7 +1,7 @@
 -- A value's sign, digits and exponent, from the fields of its pattern. Assumes nothing.
 use mathlib.Core.Path.{_≡_, refl, sym, ap, _∙_, subst}
 use mathlib.Core.Bool.{Bool, true, false, not, cond, true≢false, false≢true}
-use Prim.Native.Nat.{ℕ, zero, suc, _+_, _-_, _*_, _/_, _%_, _^_, _≤_, _<_}
+use Prim.Native.Nat.{ℕ, zero, suc, _+_, _-_, _*_, _/_, _^_, _<_}
 use native.Mathlib.Nat.{add-comm, le-of-eq, lt-irrefl}
 use native.Mathlib.Omega.{arith}
 use lib.Arith.{le→nltb}

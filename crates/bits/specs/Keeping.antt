@@ -1,8 +1,8 @@
 -- What is kept of a number (`Kept`): how to show it, and how it changes when the number is cut, scaled, or has another added or taken away. Assumes nothing.
 use mathlib.Core.Path.{_≡_, refl, sym, ap, _∙_, subst}
-use mathlib.Core.Bool.{Bool, true, false, _||_, cond}
-use Prim.Native.Nat.{ℕ, zero, suc, _+_, _-_, _*_, _/_, _%_, _^_, _≤_, _<_}
-use native.Mathlib.Nat.{add-comm, add-zero, zero-add, add-mul, mul-assoc, mul-comm, mul-pos, zero-mul, one-mul, div-add-mod', mul-div-cancel, mul-mod-left, mul-add-div-right, mul-add-mod-self-right, mod-lt, mul-lt-mul-of-pos-right, lt-of-mul-lt-mul-right, pos-of-div-pos, lt-of-lt-of-le, le-of-eq}
+use mathlib.Core.Bool.{Bool, true, false, cond, _||_}
+use Prim.Native.Nat.{ℕ, _+_, _-_, _*_, _/_, _%_, _^_, _≤_, _<_}
+use native.Mathlib.Nat.{add-comm, add-zero, add-mul, mul-assoc, div-add-mod', mul-div-cancel, mul-mod-left, mul-add-div-right, mul-add-mod-self-right, mod-lt, mul-lt-mul-of-pos-right, lt-of-mul-lt-mul-right, pos-of-div-pos, lt-of-lt-of-le, le-of-eq}
 use native.Mathlib.Omega.{arith}
 use lib.Arith.{digits-div, digits-mod}
 use lib.Dec.{ltb}

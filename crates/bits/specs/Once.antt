@@ -1,14 +1,13 @@
 -- The one rounding rounds any exact number once: `roundedOf` of what is kept of n is `round` of n, wherever at least 54 digits are kept or nothing is left. Assumes nothing.
 use mathlib.Core.Path.{_≡_, refl, sym, ap, _∙_, subst}
-use mathlib.Core.Bool.{Bool, true, false, _||_, cond}
+use mathlib.Core.Bool.{Bool, true, false, cond, _||_}
 use Prim.Native.Nat.{ℕ, zero, suc, _+_, _-_, _*_, _/_, _%_, _^_, _≤_, _<_, compare, Ordering, Ordering·lt, Ordering·eq, Ordering·gt}
-use native.Mathlib.Nat.{le-trans, le-of-eq, lt-of-lt-of-le, mul-one, one-mul, mul-assoc, mul-comm, mul-left-comm, mul-pos, zero-mul, mul-div-mul-right, div-div-eq-div-mul, mod-lt, pow-suc, add-mul}
-use native.Mathlib.Numerals.{add-one}
+use native.Mathlib.Nat.{le-trans, le-of-eq, lt-of-lt-of-le, mul-assoc, mul-comm, mul-pos, zero-mul, mul-div-mul-right, div-div-eq-div-mul, mod-lt, pow-suc}
 use native.Mathlib.Omega.{arith}
 use lib.Arith.{mod-mul}
-use lib.Dec.{ltb, lit≤, lit<}
-use lib.Pow.{pow-add, pow-pos, pow-lt, pow-mono}
-use lib.Ieee.{Float, inf, Format, binary64, prec, low, size, nearest, units, round}
+use lib.Dec.{ltb, lit≤}
+use lib.Pow.{pow-add, pow-pos, pow-mono}
+use lib.Ieee.{Format, binary64, prec, low, size, nearest, units, round}
 use lib.Ieee.Fits.{core, round-is}
 use lib.Ieee.Nearest.{closest, closest-same}
 use lib.Ieee.Scale.{round-same}

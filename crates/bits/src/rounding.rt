@@ -1,9 +1,8 @@
 // The one rounding: a sign, 128 digits, whether anything is left below them, and an exponent, to the
 // nearest f64, a tie to the even one (IEEE 754-2019, 4.3.1). Subnormal results and overflow included.
 ghost use mathlib.Core.Path.{_≡_};
-ghost use mathlib.Core.Bool.{Bool, cond, _||_};
+ghost use mathlib.Core.Bool.{Bool, cond};
 ghost use Prim.Native.Nat.{ℕ, _+_, _*_, _/_, _%_, _^_, _<_, _≤_};
-ghost use lib.Dec.{ltb};
 ghost use lib.Ieee.{binary64, nearest, units, round};
 ghost use Rattle.bits.specs.Rounded.{Kept, roundedOf};
 ghost use Rattle.bits.specs.Steps.{ordOf, Drop, spare};
@@ -65,12 +64,6 @@ fn split(w: u64, s: u64) -> Cut
     }
 }
 
-fn or_some(more: bool, low: u64) -> bool
-    ensures { λ r. ⌜ r ≡ (more || ltb 0 low) ⌝ }
-{
-    if more { true } else { low > 0 }
-}
-
 // 64 digits, the leading one set, and e others below them.
 fn round_full(negative: bool, w: u64, more: bool, e: u64) -> f64
     requires { ⌜ (2 ^ 63 ≤ w) × (e < 2 ^ 32) ⌝ }
@@ -81,7 +74,7 @@ fn round_full(negative: bool, w: u64, more: bool, e: u64) -> f64
         return packed(negative, 0, 0);
     }
     let c = split(w, d - 1);
-    let q = nearest_half(c.high, or_some(more, c.low));
+    let q = nearest_half(c.high, more | (c.low > 0));
     packed(negative, q, d + e - 1394)
 }
 
@@ -92,13 +85,13 @@ fn round_high(negative: bool, high: u64, low: u64, more: bool, e: u64) -> f64
 {
     let z = u64::leading_zeros(high) as u64;
     if z == 0 {
-        return round_full(negative, high, or_some(more, low), e + 64);
+        return round_full(negative, high, more | (low > 0), e + 64);
     }
     let c = split(low, 64 - z);
     round_full(
         negative,
         (high << z) + c.high,
-        or_some(more, c.low),
+        more | (c.low > 0),
         e + (64 - z),
     )
 }

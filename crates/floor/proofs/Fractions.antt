@@ -1,9 +1,8 @@
 -- The shifts of the whole-number functions, and the functions at a value's parts. Assumes nothing.
 use mathlib.Core.Path.{_≡_, refl, sym, ap, _∙_, subst}
-use mathlib.Core.Logic.{_⊎_, inl, inr}
 use mathlib.Core.Bool.{Bool, true, false, not, cond, _&&_, true≢false}
-use Prim.Native.Nat.{ℕ, zero, suc, _+_, _-_, _*_, _/_, _%_, _^_, _≤_, _<_}
-use native.Mathlib.Nat.{le-trans, le-of-eq, lt-of-lt-of-le, zero-add, add-assoc, mul-assoc, mul-right-comm, mul-le-mul, mul-le-mul-left, mul-div-mul-left, div-eq-of-lt, mod-eq-of-lt, div-le-self, div-mul-le-self, eq-of-mul-eq-mul-right, add-mul-mod-self-left, mod-lt}
+use Prim.Native.Nat.{ℕ, _+_, _-_, _*_, _/_, _%_, _^_, _≤_, _<_}
+use native.Mathlib.Nat.{le-trans, le-of-eq, lt-of-lt-of-le, zero-add, add-assoc, mul-assoc, mul-right-comm, mul-le-mul, mul-le-mul-left, mul-div-mul-left, div-eq-of-lt, mod-eq-of-lt, div-le-self, div-mul-le-self, eq-of-mul-eq-mul-right, add-mul-mod-self-left}
 use native.Mathlib.Omega.{arith}
 use lib.Bits.{bitAnd, and-mask}
 use lib.Dec.{T, ltb, ltb→lt, le→leb, nltb→le, lit<, lit≤}
@@ -15,7 +14,7 @@ use lib.Ieee.Exact.{HasValue}
 use lib.Ieee.Fits.{neg-fits}
 use lib.Ieee.Scale.{finite}
 use Rattle.laws.specs.Exact.{round-neg}
-use Rattle.laws.specs.Flags.{holds, fails, is-some, is-none}
+use Rattle.laws.specs.Flags.{holds, fails, both-true}
 use Rattle.laws.specs.Digits.{one-shl}
 use Rattle.bits.specs.Parts.{Decoded, PartsOf}
 use Rattle.floor.specs.Whole.{magnitudeOf, truncOf, floorOf, roundOf, ceiling, halfUp}
@@ -90,17 +89,13 @@ signed-pos s n e = sym (ap (λ (b : Bool). round binary64 b n 1) e)
 
 -- ---- a value's parts
 module _ (x : Float) (f s : Bool) (d e : ℕ) (p : PartsOf x f s d e) where
-  first : (a b : Bool) → (a && b) ≡ true → (a ≡ true) × (b ≡ true)
-  first true b q = (refl, q)
-  first false b q = absurd (true≢false (sym q))
-
   -- below 2 ^ 52: d / 2 ^ (1074 - e)
   module _ (q : (f && ltb e 1074) ≡ true) where
     pub decoded : Decoded x s d e
-    decoded = p .decoded (sym (p .kind) ∙ first f (ltb e 1074) q .0)
+    decoded = p .decoded (sym (p .kind) ∙ both-true f (ltb e 1074) q .0)
 
     pub under : e < 1074
-    under = ltb→lt e 1074 (holds (first f (ltb e 1074) q .1))
+    under = ltb→lt e 1074 (holds (both-true f (ltb e 1074) q .1))
 
     value : HasValue x s d (2 ^ (1074 - e))
     value = rescale x (subst (λ (z : ℕ). HasValue x s (d * 2 ^ e) z) (ap (λ (z : ℕ). 2 ^ z) (let u = under in let z : 1074 ≡ 1074 - e + e = omega arith in z) ∙ pow-add 2 (1074 - e) e) (decoded .value))

@@ -1,12 +1,12 @@
 -- The factors and the addend moved up: what `Lifted` and `Placed` say of them. Assumes nothing.
 use mathlib.Core.Path.{_≡_, refl, sym, ap, _∙_, subst}
 use mathlib.Core.Logic.{_⊎_, inl, inr}
-use Prim.Native.Nat.{ℕ, zero, suc, _+_, _-_, _*_, _/_, _%_, _^_, _≤_, _<_}
-use native.Mathlib.Nat.{le-trans, le-of-eq, le-of-lt, lt-of-lt-of-le, lt-of-le-of-lt, lt-irrefl, eq-zero-or-pos, add-zero, zero-mul, mul-zero, mul-assoc, mul-left-comm, mul-pos, mul-le-mul, mul-mod-left, mod-eq-of-lt, le-add-right, lt-of-mul-lt-mul-right}
+use Prim.Native.Nat.{ℕ, suc, _+_, _-_, _*_, _/_, _%_, _^_, _≤_, _<_}
+use native.Mathlib.Nat.{le-trans, le-of-eq, lt-of-lt-of-le, lt-of-le-of-lt, lt-irrefl, eq-zero-or-pos, add-zero, zero-mul, mul-zero, mul-assoc, mul-left-comm, mul-pos, mul-le-mul, mul-mod-left, mod-eq-of-lt, le-add-right, lt-of-mul-lt-mul-right}
 use native.Mathlib.Omega.{arith}
 use lib.Count.{leadingZeros, leading-of-zero}
 use lib.Dec.{lit≤, lit<}
-use lib.Pow.{pow-add, pow-pos, pow-mono}
+use lib.Pow.{pow-add, pow-pos}
 use Rattle.laws.specs.Digits.{length, moved, zeros-ge, zeros-lt, mul-lt-pow}
 use Rattle.bits.specs.Wide.{Halves}
 use Rattle.floor.specs.Steps.{Lifted, Placed, val}
@@ -68,7 +68,7 @@ nothing n e d k w z = go (eq-zero-or-pos d)
 
 -- ---- zero
 pub placed-zero : Placed 0 0 0
-placed-zero = record { most = lit< tt; fits = lit< tt; round = refl; lead = λ h. absurd (lt-irrefl 0 h); zero = λ e. refl }
+placed-zero = record { most = lit< tt; fits = lit< tt; round = refl; lead = λ h. absurd (lt-irrefl 0 h) }
 
 -- ---- the product
 module _ (sx ex a ea sy ey b eb high low : ℕ) (x : Lifted sx ex a ea) (y : Lifted sy ey b eb) (p : Halves (a * b) high low) where
@@ -111,12 +111,8 @@ module _ (sx ex a ea sy ey b eb high low : ℕ) (x : Lifted sx ex a ea) (y : Lif
     fits = p .low-fits;
     round = ap (λ (z : ℕ). z % 2 ^ 20) (p .whole) ∙ zeros;
     lead = λ g. le-trans (both (some sx (nothing-x h)) (some sy (nothing-y h))) (le-of-eq (sym (p .whole)));
-    zero = λ e. absurd (far (ea + eb) e);
   }
     where
-      far : (n : ℕ) → n + 66 ≡ 0 → ⊥
-      far n e = omega arith
-
       some : (n : ℕ) → (n ≡ 0 → ⊥) → 0 < n
       some n g = omega arith
 
@@ -164,11 +160,7 @@ addend-placed n e d k w h = record {
   fits = lit< tt;
   round = (let z : (d * 2 ^ 64 + 0) % 2 ^ 20 ≡ 0 = omega arith in z);
   lead = λ g. (let z = w .lead (some n h) in let y : 2 ^ 124 ≤ d * 2 ^ 64 + 0 = omega arith in y);
-  zero = λ q. absurd (far k q);
 }
   where
-    far : (k : ℕ) → k + 1139 ≡ 0 → ⊥
-    far k q = omega arith
-
     some : (n : ℕ) → (n ≡ 0 → ⊥) → 0 < n
     some n g = omega arith

@@ -1,12 +1,12 @@
 -- Two limbs: their order and difference, and a shift to the right. Assumes nothing.
-use mathlib.Core.Path.{_≡_, refl, sym, ap, _∙_, subst}
+use mathlib.Core.Path.{_≡_, sym, ap, _∙_, subst}
 use mathlib.Core.Logic.{_⊎_, inl, inr}
-use mathlib.Core.Bool.{Bool, true, false, _||_}
-use Prim.Native.Nat.{ℕ, zero, suc, _+_, _-_, _*_, _/_, _%_, _^_, _≤_, _<_}
-use native.Mathlib.Nat.{mul-le-mul-right, le-of-eq, lt-of-lt-of-le, mul-assoc, mul-comm, add-mul, mul-div-cancel, mul-mod-left, add-zero, div-add-mod', mul-add-div-right, mul-add-mod-self-right, mod-lt, mod-eq-of-lt, div-eq-of-lt, div-one, mod-one, div-le-self, lt-of-le-of-lt}
+use mathlib.Core.Bool.{false, _||_}
+use Prim.Native.Nat.{ℕ, suc, _+_, _-_, _*_, _/_, _%_, _^_, _≤_, _<_}
+use native.Mathlib.Nat.{mul-le-mul-right, le-of-eq, lt-of-lt-of-le, mul-assoc, mul-comm, add-mul, mul-div-cancel, mul-mod-left, add-zero, div-add-mod', mul-add-div-right, mul-add-mod-self-right, mod-lt, mod-eq-of-lt, div-eq-of-lt, div-one, mod-one, lt-of-le-of-lt}
 use native.Mathlib.Omega.{arith}
 use lib.Arith.{mod-mul, digits-lt, le→nltb}
-use lib.Dec.{ltb, lt→ltb, lit<}
+use lib.Dec.{ltb, lt→ltb}
 use lib.Ieee.Bits.{is-true, is-false}
 use lib.Pow.{pow-add, pow-pos, pow-mono, shr-lt, shr-shr, mod-pow-add, high, low}
 use Rattle.laws.specs.Flags.{lt-or-le, some-sum}
@@ -99,19 +99,18 @@ some-whole h l n a =
     let w = left-part h n a in
     omega arith
 
-pub shifted-some : (h l n : ℕ) → n < 64 → l < 2 ^ 64 → Shifted (val h l) n (h / 2 ^ n) (h * 2 ^ (64 - n) % 2 ^ 64 + l / 2 ^ n) (ltb 0 (l % (1 * 2 ^ n % 2 ^ 64)))
-shifted-some h l n a b = record {
+pub shifted-some : (h l n : ℕ) → n < 64 → Shifted (val h l) n (h / 2 ^ n) (h * 2 ^ (64 - n) % 2 ^ 64 + l / 2 ^ n) (ltb 0 (l % (1 * 2 ^ n % 2 ^ 64)))
+shifted-some h l n a = record {
   whole = some-whole h l n a;
   rest = ap (ltb 0) (ap (λ (z : ℕ). z % 2 ^ n) (apart h l n a) ∙ mul-add-mod-self-right (h * 2 ^ (64 - n)) (2 ^ n) l ∙ ap (λ (x : ℕ). l % x) (sym (one-shl n a)));
-  fits = some-fits h l n a b;
 }
 
 -- ---- by nothing, by a limb or more, by both
-pub shifted-none : (h l n : ℕ) → n ≡ 0 → l < 2 ^ 64 → Shifted (val h l) n h l false
-shifted-none h l n e b = subst (λ (x : ℕ). Shifted (val h l) x h l false) (sym e) (record { whole = sym (div-one (val h l)); rest = ap (ltb 0) (mod-one (val h l)); fits = b })
+pub shifted-none : (h l n : ℕ) → n ≡ 0 → Shifted (val h l) n h l false
+shifted-none h l n e = subst (λ (x : ℕ). Shifted (val h l) x h l false) (sym e) (record { whole = sym (div-one (val h l)); rest = ap (ltb 0) (mod-one (val h l)) })
 
-pub shifted-limb : (h l n : ℕ) → 64 ≤ n → n < 128 → h < 2 ^ 64 → l < 2 ^ 64 → Shifted (val h l) n 0 (h / 2 ^ (n - 64)) (ltb 0 l || ltb 0 (h % (1 * 2 ^ (n - 64) % 2 ^ 64)))
-shifted-limb h l n a b H L =
+pub shifted-limb : (h l n : ℕ) → 64 ≤ n → n < 128 → l < 2 ^ 64 → Shifted (val h l) n 0 (h / 2 ^ (n - 64)) (ltb 0 l || ltb 0 (h % (1 * 2 ^ (n - 64) % 2 ^ 64)))
+shifted-limb h l n a b L =
     let k = n - 64 in
     record {
       whole = zero-limb (h / 2 ^ k) ∙ ap (λ (x : ℕ). x / 2 ^ k) (sym (high h 64 L)) ∙ shr-shr (val h l) 64 k ∙ ap (λ (x : ℕ). val h l / 2 ^ x) (let z : 64 + k ≡ n = omega arith in z);
@@ -120,7 +119,6 @@ shifted-limb h l n a b H L =
           ∙ ap (ltb 0) (mod-pow-add (val h l) k 64 ∙ (λ i. high h 64 L i % 2 ^ k * 2 ^ 64 + low h 64 L i))
           ∙ some-sum (h % 2 ^ k) (2 ^ 64) l (pow-pos 64)
           ∙ ap (λ (x : ℕ). ltb 0 l || ltb 0 (h % x)) (sym (one-shl k (let z : k < 64 = omega arith in z)));
-      fits = lt-of-le-of-lt (div-le-self h (2 ^ k)) H;
     }
   where
     zero-limb : (c : ℕ) → 0 * 2 ^ 64 + c ≡ c
@@ -129,4 +127,4 @@ shifted-limb h l n a b H L =
 pub shifted-out : (h l n : ℕ) → 128 ≤ n → h < 2 ^ 64 → l < 2 ^ 64 → Shifted (val h l) n 0 0 (ltb 0 l || ltb 0 h)
 shifted-out h l n a H L =
     let x : val h l < 2 ^ n = lt-of-lt-of-le (digits-lt H L) (pow-mono {i = 128} a) in
-    record { whole = sym (div-eq-of-lt x); rest = ap (ltb 0) (mod-eq-of-lt x) ∙ some-sum h (2 ^ 64) l (pow-pos 64); fits = lit< tt }
+    record { whole = sym (div-eq-of-lt x); rest = ap (ltb 0) (mod-eq-of-lt x) ∙ some-sum h (2 ^ 64) l (pow-pos 64) }

@@ -1,19 +1,19 @@
 -- The exact sum of two placed numbers, from the one with the smaller exponent cut to whole places of the other. Assumes nothing.
 use mathlib.Core.Path.{_≡_, refl, sym, ap, _∙_, subst}
-use mathlib.Core.Bool.{Bool, true, false, _&&_, _||_, cond, true≢false, Bool·beq}
-use Prim.Native.Nat.{ℕ, zero, suc, _+_, _-_, _*_, _/_, _%_, _^_, _≤_, _<_}
-use native.Mathlib.Nat.{le-trans, le-of-eq, le-of-lt, lt-of-le-of-lt, lt-of-lt-of-le, lt-irrefl, add-zero, mul-div-cancel, mul-mod-left, mul-div-mul-right, mul-le-mul-right, mul-lt-mul-of-pos-right, mod-lt, le-add-right, mul-assoc, div-add-mod', div-le-self, lt-of-mul-lt-mul-right}
+use mathlib.Core.Bool.{Bool, true, false, _&&_, cond, true≢false, Bool·beq}
+use Prim.Native.Nat.{ℕ, suc, _+_, _-_, _*_, _/_, _%_, _^_, _≤_, _<_}
+use native.Mathlib.Nat.{le-trans, le-of-eq, le-of-lt, lt-of-le-of-lt, lt-of-lt-of-le, lt-irrefl, add-zero, mul-div-cancel, mul-mod-left, mul-div-mul-right, mul-le-mul-right, mod-lt, le-add-right, mul-assoc, div-add-mod', div-le-self, lt-of-mul-lt-mul-right}
 use native.Mathlib.Omega.{arith}
 use lib.Arith.{mod-mul, digits-lt}
-use lib.Dec.{ltb, ltb→lt, nltb→le, lit≤}
+use lib.Dec.{ltb}
 use lib.Pow.{pow-add, pow-pos, pow-mono, shr-lt}
 use lib.Ieee.{binary64, round, sum}
-use Rattle.laws.specs.Flags.{holds, fails, is-some, some-of, some-sum}
-use Rattle.laws.specs.Sum.{sum-like, sum-unlike, sum-comm}
+use Rattle.laws.specs.Flags.{is-some, some-of, some-sum}
+use Rattle.laws.specs.Sum.{sum-like, sum-unlike, sum-comm, differ-comm}
 use Rattle.bits.specs.Rounded.{Kept, roundedOf}
 use Rattle.bits.specs.Keeping.{kept-split, kept-all, kept-self, kept-sum, kept-diff, kept-pos}
 use Rattle.bits.specs.Once.{rounded-kept, rounded-exact}
-use Rattle.floor.specs.Steps.{Placed, Shifted, val}
+use Rattle.floor.specs.Steps.{Placed, Shifted, val, without}
 
 -- ---- the one rounding of what is kept
 rounded-of : (s : Bool) (n w e : ℕ) (m : Bool) → Kept n w e m → (m ≡ true → 2 ^ 53 ≤ w) → roundedOf s w m e ≡ round binary64 s n (2 ^ 2340)
@@ -35,9 +35,6 @@ module _ (ah al E bh bl e th tl : ℕ) (m : Bool) (pa : Placed ah al E) (pb : Pl
 
   abbrev t : ℕ
   t = val th tl
-
-  d : ℕ
-  d = E - e
 
   as-product : 2 ^ E ≡ 2 ^ (E - e) * 2 ^ e
   as-product = ap (λ (x : ℕ). 2 ^ x) (let z : E ≡ E - e + e = omega arith in z) ∙ pow-add 2 (E - e) e
@@ -105,17 +102,17 @@ module _ (ah al E bh bl e th tl : ℕ) (m : Bool) (pa : Placed ah al E) (pb : Pl
       go false z = le-trans (le-of-eq (kept-all (B * 2 ^ e) t E (subst (λ (b : Bool). Kept (B * 2 ^ e) t E b) z cut))) (mul-le-mul-right (2 ^ E) h)
 
   pub unlike-over : (s u : Bool) → Bool·beq s u ≡ false → t ≤ A
-      → roundedOf (s && ltb 0 (A - (t + cond m 1 0))) (A - (t + cond m 1 0)) m E ≡ sum binary64 s (A * 2 ^ E) u (B * 2 ^ e) (2 ^ 2340)
+      → roundedOf (s && ltb 0 (without A t m)) (without A t m) m E ≡ sum binary64 s (A * 2 ^ E) u (B * 2 ^ e) (2 ^ 2340)
   unlike-over s u q h =
       let n = A * 2 ^ E - B * 2 ^ e in
-      let w = A - (t + cond m 1 0) in
+      let w = without A t m in
       let k : Kept n w E m = kept-diff A (B * 2 ^ e) t E m cut (under h) in
       rounded-of (s && ltb 0 w) n w E m k enough
       ∙ ap (λ (b : Bool). round binary64 b n (2 ^ 2340)) (same-sign s n w E m k enough)
       ∙ sum-unlike binary64 s u (A * 2 ^ E) (B * 2 ^ e) (2 ^ 2340) q (under h)
     where
-      enough : m ≡ true → 2 ^ 53 ≤ A - (t + cond m 1 0)
-      enough z = subst (λ (b : Bool). 2 ^ 53 ≤ A - (t + cond b 1 0)) (sym z) (let f = far z in omega arith)
+      enough : m ≡ true → 2 ^ 53 ≤ without A t m
+      enough z = subst (λ (b : Bool). 2 ^ 53 ≤ without A t b) (sym z) (let f = far z in omega arith)
 
   -- ---- two signs, a smaller: then nothing was cut
   exact : A < t → m ≡ false
@@ -126,19 +123,13 @@ module _ (ah al E bh bl e th tl : ℕ) (m : Bool) (pa : Placed ah al E) (pb : Pl
       go false z = z
 
   pub unlike-under : (s u : Bool) → Bool·beq s u ≡ false → A < t
-      → roundedOf (u && ltb 0 (t - (A + 0))) (t - (A + 0)) false E ≡ sum binary64 s (A * 2 ^ E) u (B * 2 ^ e) (2 ^ 2340)
+      → roundedOf (u && ltb 0 (without t A false)) (without t A false) false E ≡ sum binary64 s (A * 2 ^ E) u (B * 2 ^ e) (2 ^ 2340)
   unlike-under s u q h =
       let n = t * 2 ^ E - A * 2 ^ E in
-      let w = t - (A + 0) in
+      let w = without t A false in
       let k : Kept n w E false = kept-diff t (A * 2 ^ E) A E false (kept-self A E) (mul-le-mul-right (2 ^ E) (le-of-lt h)) in
       rounded-of (u && ltb 0 w) n w E false k (λ z. absurd (true≢false (sym z)))
       ∙ ap (λ (b : Bool). round binary64 b n (2 ^ 2340)) (same-sign u n w E false k (λ z. absurd (true≢false (sym z))))
-      ∙ sum-unlike binary64 u s (t * 2 ^ E) (A * 2 ^ E) (2 ^ 2340) (flip s u q) (mul-le-mul-right (2 ^ E) (le-of-lt h))
+      ∙ sum-unlike binary64 u s (t * 2 ^ E) (A * 2 ^ E) (2 ^ 2340) (differ-comm s u q) (mul-le-mul-right (2 ^ E) (le-of-lt h))
       ∙ ap (λ (x : ℕ). sum binary64 u x s (A * 2 ^ E) (2 ^ 2340)) (sym (kept-all (B * 2 ^ e) t E (subst (λ (b : Bool). Kept (B * 2 ^ e) t E b) (exact h) cut)))
       ∙ sum-comm binary64 u s (B * 2 ^ e) (A * 2 ^ E) (2 ^ 2340)
-    where
-      flip : (s u : Bool) → Bool·beq s u ≡ false → Bool·beq u s ≡ false
-      flip true true q = q
-      flip true false q = q
-      flip false true q = q
-      flip false false q = q

@@ -1,7 +1,7 @@
 -- Document 01's corner table, the rows of module 1, as one fact. Each row is computed. Assumes nothing.
 use mathlib.Core.Path.{_≡_, refl}
-use lib.Ieee.{Float, neg, ofBits, round, sub, sum}
-use Rattle.laws.specs.Arithmetic.{float, 1·0}
+use lib.Ieee.{ofBits}
+use Rattle.laws.specs.Arithmetic.{float}
 use Rattle.floor.specs.Root.{rootOf}
 use Rattle.floor.specs.Fused.{fusedOf}
 use Rattle.floor.specs.Whole.{roundOf}

@@ -1,6 +1,5 @@
 -- The fused multiply-add (01, module 1; IEEE 754-2019, 5.4.1): x * y + z exactly, rounded once. Definitions only.
-use Prim.Native.Nat.{ℕ, _*_}
-use mathlib.Core.Bool.{Bool}
+use Prim.Native.Nat.{_*_}
 use lib.Ieee.{Float, nan, inf, fin, binary64, up, down, unlike, sum, add, mul}
 
 -- `sum` is the exact sum of two signed fractions, rounded once. Where x or y is no finite number `mul` rounds nothing, and where only z is none it is the result.

@@ -1,16 +1,15 @@
 -- What the multiply-add's definition means: `round` of the exact fraction x * y + z, whatever fractions x, y and z are written as; and with y = 1 it is the sum. Assumes nothing.
-use mathlib.Core.Path.{_≡_, refl, sym, ap, _∙_, subst}
-use mathlib.Core.Bool.{Bool, true, false, _&&_, Bool·beq}
-use Prim.Native.Nat.{ℕ, _+_, _-_, _*_, _≤_, _<_}
+use mathlib.Core.Path.{_≡_, refl, sym, ap, _∙_}
+use mathlib.Core.Bool.{Bool, true, false, Bool·beq}
+use Prim.Native.Nat.{ℕ, _+_, _-_, _*_, _<_}
 use native.Mathlib.Nat.{mul-assoc, mul-comm, mul-left-comm, mul-one, mul-pos, le-of-lt}
 use native.Mathlib.Omega.{arith}
-use lib.Dec.{ltb}
 use lib.Ieee.{Float, nan, inf, fin, binary64, up, down, unlike, round, sum, add, mul, ofBits}
 use lib.Ieee.Exact.{HasValue}
 use lib.Ieee.Fits.{down-pos}
 use Rattle.laws.specs.Arithmetic.{_⊕_, 1·0}
 use Rattle.laws.specs.Flags.{signed}
-use Rattle.laws.specs.Sum.{sum-same, sum-like, sum-unlike, sum-comm}
+use Rattle.laws.specs.Sum.{sum-same, sum-like, sum-unlike, sum-comm, differ-comm}
 use Rattle.floor.specs.Fused.{fusedOf}
 
 -- ---- x = ±a / c, y = ±b / d, z = ±k / g
@@ -36,6 +35,9 @@ fused-fraction (fin s' m e) (fin t' n f) (fin u' l h) s t u a c b d k g C D G hx
     (crossed (m * up e) c a (down e) (n * up f) d b (down f) g (down h) (hx .1) (hy .1))
     (crossed-last (l * up h) g k (down h) (down e) (down f) c d (hz .1)))
 
+left : (p q : ℕ) → q < p → 0 < p - q
+left p q h = omega arith
+
 -- so it is `round` of the exact number, whose sign is that of the larger term
 module _ (x y z : Float) (s t u : Bool) (a c b d k g : ℕ) (C : 0 < c) (D : 0 < d) (G : 0 < g) (hx : HasValue x s a c) (hy : HasValue y t b d) (hz : HasValue z u k g) where
   pub fused-like : Bool·beq (unlike s t) u ≡ true → fusedOf x y z ≡ round binary64 (unlike s t) (a * b * g + k * (c * d)) (c * d * g)
@@ -45,26 +47,14 @@ module _ (x y z : Float) (s t u : Bool) (a c b d k g : ℕ) (C : 0 < c) (D : 0 <
   fused-product-larger e h =
       fused-fraction x y z s t u a c b d k g C D G hx hy hz
       ∙ sym (sum-unlike binary64 (unlike s t) u (a * b * g) (k * (c * d)) (c * d * g) e (le-of-lt h))
-      ∙ ap (λ (w : Bool). round binary64 w (a * b * g - k * (c * d)) (c * d * g)) (signed (unlike s t) (a * b * g - k * (c * d)) (let w : 0 < a * b * g - k * (c * d) = positive (a * b * g) (k * (c * d)) h in w))
-    where
-      positive : (p q : ℕ) → q < p → 0 < p - q
-      positive p q h = omega arith
+      ∙ ap (λ (w : Bool). round binary64 w (a * b * g - k * (c * d)) (c * d * g)) (signed (unlike s t) (a * b * g - k * (c * d)) (left (a * b * g) (k * (c * d)) h))
 
   pub fused-addend-larger : Bool·beq (unlike s t) u ≡ false → a * b * g < k * (c * d) → fusedOf x y z ≡ round binary64 u (k * (c * d) - a * b * g) (c * d * g)
   fused-addend-larger e h =
       fused-fraction x y z s t u a c b d k g C D G hx hy hz
       ∙ sum-comm binary64 (unlike s t) u (a * b * g) (k * (c * d)) (c * d * g)
-      ∙ sym (sum-unlike binary64 u (unlike s t) (k * (c * d)) (a * b * g) (c * d * g) (flip (unlike s t) u e) (le-of-lt h))
-      ∙ ap (λ (w : Bool). round binary64 w (k * (c * d) - a * b * g) (c * d * g)) (signed u (k * (c * d) - a * b * g) (positive (k * (c * d)) (a * b * g) h))
-    where
-      positive : (p q : ℕ) → q < p → 0 < p - q
-      positive p q h = omega arith
-
-      flip : (s u : Bool) → Bool·beq s u ≡ false → Bool·beq u s ≡ false
-      flip true true q = q
-      flip true false q = q
-      flip false true q = q
-      flip false false q = q
+      ∙ sym (sum-unlike binary64 u (unlike s t) (k * (c * d)) (a * b * g) (c * d * g) (differ-comm (unlike s t) u e) (le-of-lt h))
+      ∙ ap (λ (w : Bool). round binary64 w (k * (c * d) - a * b * g) (c * d * g)) (signed u (k * (c * d) - a * b * g) (left (k * (c * d)) (a * b * g) h))
 
 -- ---- times 1
 same-sign : (s : Bool) → unlike s false ≡ s

@@ -1,6 +1,6 @@
 -- The square root (01, module 1; IEEE 754-2019, 5.4.1): the exact root rounded once, a tie to the even one. Definitions only.
 use Prim.Native.Nat.{ℕ, zero, suc, _+_, _-_, _*_, _/_, _^_, compare}
-use mathlib.Core.Bool.{Bool, true, false, cond}
+use mathlib.Core.Bool.{true, false, cond}
 use lib.Dec.{leb}
 use lib.Ieee.{Float, nan, inf, fin, binary64, up, down, size, nearest, units}
 

@@ -1,17 +1,18 @@
 -- What the root's definition means: `wholeRoot` is the whole root, and `roundRoot` the nearest, since the radicand lies between the squares of the two middles beside it. Assumes nothing.
 use mathlib.Core.Path.{_≡_, refl, sym, ap, _∙_, subst}
-use mathlib.Core.Bool.{Bool, true, false, not, cond, _&&_}
+use mathlib.Core.Bool.{Bool, true, false, not, cond}
 use Prim.Native.Nat.{ℕ, zero, suc, _+_, _-_, _*_, _/_, _%_, _^_, _≤_, _<_, zero-le, compare, Ordering, Ordering·lt, Ordering·eq, Ordering·gt}
-use native.Mathlib.Nat.{le-trans, le-of-eq, le-of-lt, lt-of-le-of-lt, lt-of-lt-of-le, lt-of-not-le, not-le-of-lt, le-of-suc-le-suc, mul-one, mul-pos, mul-le-mul, mul-le-mul-left, mul-le-mul-right, mul-assoc, mul-comm, mul-mul-mul-comm, mul-div-cancel, pow-suc, div-lt-iff-lt-mul, div-mul-le-self, zero-lt-suc, div-add-mod', mod-lt, lt-irrefl, mul-lt-mul-of-pos-right, mul-right-comm, lt-of-mul-lt-mul-right, add-zero}
+use native.Mathlib.Nat.{le-trans, le-of-eq, le-of-lt, lt-of-le-of-lt, lt-of-lt-of-le, lt-of-not-le, not-le-of-lt, mul-one, mul-le-mul, mul-le-mul-left, mul-le-mul-right, mul-mul-mul-comm, mul-div-cancel, pow-suc, div-lt-iff-lt-mul, div-mul-le-self, zero-lt-suc, div-add-mod', mod-lt, lt-irrefl, mul-lt-mul-of-pos-right, mul-right-comm, lt-of-mul-lt-mul-right, add-zero}
 use native.Mathlib.Omega.{arith}
-use lib.Dec.{T, leb, ltb, eqb, ltb→lt, leb→le, nleb→lt, lit<}
+use lib.Dec.{T, leb, ltb→lt, leb→le, nleb→lt, lit<}
 use lib.Pow.{pow-add, pow-pos, pow-lt}
 use lib.Ieee.{Float, fin, binary64, down, up, size, nearest, units, fits}
 use lib.Ieee.Digits.{size-lt, size-le}
 use lib.Ieee.Exact.{HasValue, units-val}
-use lib.Ieee.Fits.{and-r, down-pos, nearest-le, kept-lt}
+use lib.Ieee.Fits.{down-pos, nearest-le, kept-lt}
 use lib.Ieee.Positive.{positive}
 use lib.Ieee.Scale.{overflow}
+use Rattle.laws.specs.Exact.{fits-bounds}
 use Rattle.laws.specs.Compare.{Compared, compared}
 use Rattle.floor.specs.Root.{rootIn, wholeRoot, roundRoot, rootOf}
 
@@ -63,9 +64,6 @@ square-up-lt : (a b : ℕ) → a < b → square a < square b
 square-up-lt a b h = lt-of-le-of-lt (mul-le-mul-left a (le-of-lt h)) (mul-lt-mul-of-pos-right h (lt-of-le-of-lt zero-le h))
 
 module _ (n q k : ℕ) (lo : square (2 * q * 2 ^ k) ≤ n * 4) (hi : n * 4 < square (2 * (q + 1) * 2 ^ k)) where
-  P : ℕ
-  P = 2 ^ k
-
   less : (a b : ℕ) → a < b → a * 2 ^ k < b * 2 ^ k
   less a b h = mul-lt-mul-of-pos-right h (pow-pos k)
 
@@ -144,17 +142,12 @@ root-at (fin false zero e) s n p h = absurd (lt-irrefl 0 (ltb→lt 0 0 p))
 root-at (fin false (suc m) e) s n p h = ap (λ (y : ℕ). roundRoot (y * 2 ^ 1074)) (ap (λ (y : ℕ). y / down e) (h .1) ∙ mul-div-cancel n (down-pos e))
 
 value-lt : (x : Float) (s : Bool) (n : ℕ) → T (positive x) → T (fits binary64 x) → HasValue x s n (2 ^ 1074) → n < 2 ^ 1024 * 2 ^ 1074
-unfolding fits
 value-lt (fin true m e) s n p f h = absurd p
 value-lt (fin false zero e) s n p f h = absurd (lt-irrefl 0 (ltb→lt 0 0 p))
 value-lt (fin false (suc m) e) s n p f h =
-    let A = eqb (suc m % 2) 1 in
-    let B = ltb (suc m) (2 ^ 53) in
-    let C = leb (down e) (2 ^ 1074) in
-    let D = ltb (suc m * up e) (2 ^ 1024 * down e) in
     lt-of-mul-lt-mul-right (down e)
     (lt-of-le-of-lt (le-of-eq (sym (h .1)))
-    (lt-of-lt-of-le (mul-lt-mul-of-pos-right (ltb→lt (suc m * up e) (2 ^ 1024 * down e) (and-r (A && B && C) D f)) (pow-pos 1074)) (le-of-eq (mul-right-comm (2 ^ 1024) (down e) (2 ^ 1074)))))
+    (lt-of-lt-of-le (mul-lt-mul-of-pos-right (fits-bounds binary64 false m e f .2) (pow-pos 1074)) (le-of-eq (mul-right-comm (2 ^ 1024) (down e) (2 ^ 1074)))))
 
 -- the root of a finite value never overflows
 kept-small : (n : ℕ) → n < 2 ^ 1024 * 2 ^ 1074 → kept (n * 2 ^ 1074) * 2 ^ dropped (n * 2 ^ 1074) < overflow binary64

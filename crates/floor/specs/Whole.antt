@@ -1,7 +1,7 @@
 -- Magnitude, truncation, floor and rounding to a whole number with halves away from zero (01, module 1; Rust's `abs`, `trunc`, `floor`, `round`). Definitions only.
 -- A finite value is a fraction a / c in size: a = m * up e, c = down e. Each function gives a whole number with the value's own sign, so a zero keeps it.
 use Prim.Native.Nat.{ℕ, _+_, _*_, _/_, _%_}
-use mathlib.Core.Bool.{Bool, true, false, cond}
+use mathlib.Core.Bool.{false, cond}
 use lib.Dec.{ltb}
 use lib.Ieee.{Float, nan, inf, fin, binary64, up, down, round}
 

@@ -1,20 +1,20 @@
 -- What the whole-number functions mean, for a value ±a / c: toward zero; the largest not above; none nearer, and a half away from zero. A zero keeps the value's sign, and from 2 ^ 52 on nothing changes. Assumes nothing.
 use mathlib.Core.Path.{_≡_, refl, sym, ap, _∙_, subst}
-use mathlib.Core.Bool.{Bool, true, false, cond, _&&_, true≢false}
+use mathlib.Core.Logic.{_⊎_, inl, inr}
+use mathlib.Core.Bool.{Bool, true, false, cond, true≢false}
 use Prim.Native.Nat.{ℕ, zero, suc, _+_, _-_, _*_, _/_, _%_, _^_, _≤_, _<_}
-use native.Mathlib.Nat.{add-mul, le-trans, le-of-eq, lt-of-lt-of-le, lt-of-le-of-lt, lt-irrefl, mul-one, one-mul, mul-pos, mul-comm, mul-assoc, mul-right-comm, mul-le-mul-left, mul-le-mul-right, mul-lt-mul-of-pos-right, div-add-mod', mod-lt, mod-one, div-one, zero-mul, zero-lt-suc, lt-of-mul-lt-mul-right, le-of-mul-le-mul-right}
+use native.Mathlib.Nat.{eq-or-lt-of-le, le-div-iff-mul-le, mul-div-cancel, add-mul, le-trans, le-of-eq, lt-of-lt-of-le, lt-of-le-of-lt, lt-irrefl, mul-one, mul-pos, mul-comm, mul-right-comm, mul-le-mul-left, mul-le-mul-right, mul-lt-mul-of-pos-right, div-add-mod', mod-lt, mod-one, div-one, zero-mul, zero-lt-suc, lt-of-mul-lt-mul-right, le-of-mul-le-mul-right}
 use native.Mathlib.Omega.{arith}
-use lib.Dec.{T, ltb, leb, eqb, ltb→lt, lt→ltb, lit<, lit≤}
+use lib.Dec.{T, ltb, lit<, lit≤}
 use lib.IntN.{ℤ, pos, negsuc}
 use lib.Pow.{pow-add, pow-pos, pow-mono}
-use lib.Ieee.{Float, nan, inf, fin, binary64, prec, emax, low, up, down, round, fits}
-use lib.Ieee.Bits.{is-true}
+use lib.Ieee.{Float, nan, inf, fin, binary64, up, down, round, fits}
 use lib.Ieee.Exact.{HasValue, round-exact}
-use lib.Ieee.Fits.{and-l, and-r, up-pos, down-pos}
+use lib.Ieee.Fits.{down-pos}
 use lib.Ieee.Nearest.{div-same}
 use lib.Ieee.Scale.{finite}
-use Rattle.laws.specs.Exact.{round-self, round-of-value}
-use Rattle.laws.specs.Flags.{is-some, is-none, some-of, none-of}
+use Rattle.laws.specs.Exact.{fits-bounds, round-self, round-of-value}
+use Rattle.laws.specs.Flags.{lt-or-le, is-some, some-of, none-of}
 use Rattle.floor.specs.Whole.{truncOf, floorOf, roundOf, ceiling, halfUp}
 
 -- ---- the whole numbers themselves
@@ -39,6 +39,53 @@ half-is a c C = let h = below (2 * a + c) (2 * c) (mul-pos (lit< tt) C) in go ((
   where
     go : (n : ℕ) → n * (2 * c) ≤ 2 * a + c → 2 * a + c < (n + 1) * (2 * c) → (2 * (n * c) ≤ 2 * a + c) × (2 * a < 2 * (n * c) + c)
     go n x y = (omega arith, omega arith)
+
+-- no whole number below a / c is larger, none above is smaller than the ceiling
+pub below-largest : (a c n : ℕ) → 0 < c → n * c ≤ a → n ≤ a / c
+below-largest a c n C h = le-div-iff-mul-le C .1 h
+
+pub ceiling-least : (a c n : ℕ) → 0 < c → a ≤ n * c → ceiling a c ≤ n
+ceiling-least a c n C h = within (ceiling a c) n (lt-of-mul-lt-mul-right c (lt-of-lt-of-le (ceiling-is a c C .1) (one-more a n c h)))
+  where
+    one-more : (a n c : ℕ) → a ≤ n * c → a + c ≤ (n + 1) * c
+    one-more a n c h = omega arith
+
+    within : (x n : ℕ) → x < n + 1 → x ≤ n
+    within x n l = omega arith
+
+-- none is nearer than `halfUp`, and a half goes up, which is away from zero
+abbrev pub apart : ℕ → ℕ → ℕ
+apart x y = (x - y) + (y - x)
+
+pub none-nearer : (a c n : ℕ) → 0 < c → apart (halfUp a c * c) a ≤ apart (n * c) a
+none-nearer a c n C = go (lt-or-le n (halfUp a c))
+  where
+    h : (2 * (halfUp a c * c) ≤ 2 * a + c) × (2 * a < 2 * (halfUp a c * c) + c)
+    h = half-is a c C
+
+    less : (N H a c : ℕ) → N + c ≤ H → 2 * H ≤ 2 * a + c → apart H a ≤ apart N a
+    less N H a c m x = omega arith
+
+    more : (N H a c : ℕ) → H + c ≤ N → 2 * a < 2 * H + c → apart H a ≤ apart N a
+    more N H a c m x = omega arith
+
+    step : (n m c : ℕ) → n < m → n * c + c ≤ m * c
+    step n m c l = let z : suc n * c ≤ m * c = mul-le-mul-right c l in omega arith
+
+    go : (n < halfUp a c) ⊎ (halfUp a c ≤ n) → apart (halfUp a c * c) a ≤ apart (n * c) a
+    go (inl l) = less (n * c) (halfUp a c * c) a c (step n (halfUp a c) c l) (h .0)
+    go (inr l) = split (eq-or-lt-of-le l)
+      where
+        split : (halfUp a c ≡ n) ⊎ (halfUp a c < n) → apart (halfUp a c * c) a ≤ apart (n * c) a
+        split (inl e) = le-of-eq (ap (λ (x : ℕ). apart (x * c) a) e)
+        split (inr g) = more (n * c) (halfUp a c * c) a c (step (halfUp a c) n c g) (h .1)
+
+pub half-away : (a c n : ℕ) → 0 < c → 2 * a ≡ 2 * (n * c) + c → halfUp a c ≡ n + 1
+unfolding halfUp
+half-away a c n C e = ap (λ (x : ℕ). x / (2 * c)) (ap (λ (x : ℕ). x + c) e ∙ twice n c) ∙ mul-div-cancel (n + 1) (mul-pos (lit< tt) C)
+  where
+    twice : (n c : ℕ) → 2 * (n * c) + c + c ≡ (n + 1) * (2 * c)
+    twice n c = omega arith
 
 -- ---- equal fractions a / c and A / C give the same ones
 half-same : (a c A C : ℕ) → 0 < c → 0 < C → a * C ≡ A * c → halfUp a c ≡ halfUp A C
@@ -84,14 +131,8 @@ round-fraction (fin t m e) s a c q h = λ i. round binary64 (h .0 i) (half-same 
 
 -- ---- a whole number within one of a value that fits is an f64 itself: the value has at most 53 digits, and a fraction takes one of them at least
 digits-lt : (s : Bool) (m : ℕ) (e : ℤ) → T (fits binary64 (fin s m e)) → m < 2 ^ 53
-unfolding fits
 digits-lt s zero e h = pow-pos 53
-digits-lt s (suc m) e h =
-    let A = eqb (suc m % 2) 1 in
-    let B = ltb (suc m) (2 ^ 53) in
-    let C = leb (down e) (2 ^ 1074) in
-    let D = ltb (suc m * up e) (2 ^ 1024 * down e) in
-    ltb→lt (suc m) (2 ^ 53) (and-r A B (and-l (A && B) C (and-l (A && B && C) D h)))
+digits-lt s (suc m) e h = fits-bounds binary64 s m e h .0
 
 exact : (s : Bool) (n : ℕ) → n < 2 ^ 53 → HasValue (round binary64 s n 1) s n 1
 exact s n h = round-exact binary64 s n 1 n 1074 (lit< tt) h (lt-of-lt-of-le (mul-lt-mul-of-pos-right h (pow-pos 1074)) (le-trans (le-of-eq (sym (pow-add 2 53 1074))) (pow-mono {i = 53 + 1074} {j = 1074 + 1024} (lit≤ tt)))) (sym (mul-one (n * 2 ^ 1074)))

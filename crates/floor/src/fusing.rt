@@ -2,12 +2,12 @@
 // exponents, one sum or difference, one rounding. Exact numbers count in 2^-2340.
 ghost use mathlib.Core.Path.{_≡_};
 ghost use mathlib.Core.Bool.{cond, _&&_};
-ghost use Prim.Native.Nat.{_+_, _-_, _*_, _^_, _<_, _≤_};
+ghost use Prim.Native.Nat.{_+_, _*_, _^_, _<_, _≤_};
 ghost use lib.Dec.{ltb};
 ghost use lib.Ieee.{binary64, sum, unlike};
 ghost use Rattle.bits.specs.Rounded.{roundedOf};
 ghost use Rattle.floor.specs.Fused.{fusedOf};
-ghost use Rattle.floor.specs.Steps.{Lifted, Placed, Shifted, val};
+ghost use Rattle.floor.specs.Steps.{Lifted, Placed, val, without};
 use super::limbs::Left;
 use super::limbs::less;
 use super::limbs::minus;
@@ -107,7 +107,7 @@ fn last_place(more: bool) -> Wide
 // a - b, where b is cut to whole places of a's: one place less where something was lost. Zero is +0.
 fn take(negative: bool, a: Wide, b: Left, exponent: u64) -> f64
     requires { ⌜ (b.high < 2 ^ 63) × (val b.high b.low + cond b.more 1 0 ≤ val a.high a.low) ⌝ }
-    ensures { λ r. ⌜ r ≡ roundedOf (negative && ltb 0 (val a.high a.low - (val b.high b.low + cond b.more 1 0))) (val a.high a.low - (val b.high b.low + cond b.more 1 0)) b.more exponent ⌝ }
+    ensures { λ r. ⌜ r ≡ roundedOf (negative && ltb 0 (without (val a.high a.low) (val b.high b.low) b.more)) (without (val a.high a.low) (val b.high b.low) b.more) b.more exponent ⌝ }
 {
     let t = Wide {
         high: b.high,

@@ -1,7 +1,6 @@
 // The square root, digit by digit: shifts and subtractions, and no branch on a digit.
 ghost use mathlib.Core.Path.{_≡_};
 ghost use Prim.Native.Nat.{_+_, _*_, _^_, _<_, _≤_};
-ghost use lib.Ieee.{binary64, units};
 ghost use Rattle.floor.specs.Root.{rootOf, roundRoot};
 ghost use Rattle.floor.specs.Steps.{Root, Aligned};
 

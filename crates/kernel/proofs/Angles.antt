@@ -1,19 +1,20 @@
 -- What the steps of sine and cosine hold: the exact Taylor sums, to a few units, and no more than 1 in size. Assumes nothing.
-use mathlib.Core.Path.{_≡_, sym, ap, _∙_, subst, subst₂, subst₃}
+use mathlib.Core.Path.{_≡_, sym, _∙_, subst, subst₂, subst₃}
 use mathlib.Core.Bool.{Bool, true, false, not}
 use Prim.Native.Nat.{ℕ, suc, _+_, _*_, _/_, _^_, _≤_, _<_}
-use native.Mathlib.Nat.{mul-add, add-mul, mul-assoc, mul-comm, mul-left-comm, one-mul, pow-suc, pow-zero, mul-pos, mul-le-mul, mul-le-mul-right, mul-le-mul-left, le-trans, le-of-eq, lt-of-le-of-lt, le-of-mul-le-mul-right, le-of-mul-le-mul-left, lt-of-mul-lt-mul-right, div-mul-le-self, lt-div-mul-add, div-le-of-le-mul, div-eq-of-lt, le-of-lt}
+use native.Mathlib.Nat.{mul-add, add-mul, mul-assoc, mul-comm, mul-left-comm, one-mul, pow-zero, mul-pos, mul-le-mul, mul-le-mul-right, mul-le-mul-left, le-trans, le-of-eq, lt-of-le-of-lt, le-of-mul-le-mul-right, lt-div-mul-add, div-le-of-le-mul, div-eq-of-lt, le-of-lt}
 use native.Mathlib.Omega.{arith}
 use lib.Dec.{T, leb, leb→le, nleb→lt, lit≤, lit<}
 use lib.Pow.{pow-pos}
-use Rattle.kernel.specs.Fractions.{Fraction, Difference}
+use Rattle.kernel.specs.Fractions.{Difference}
 use Rattle.kernel.specs.Series.{factorial, taylor}
 use Rattle.kernel.specs.Alternating.{squareOf, alternatingOf, apart}
 use Rattle.kernel.specs.declared.series.Balance.{Balance}
-use Rattle.kernel.proofs.Held.{Held}
-use Rattle.kernel.proofs.Taylor.{whole, exact, whole-pos, weight, Is, nested}
+use Rattle.kernel.proofs.Held.{Held, carry}
+use Rattle.kernel.proofs.Squares.{square-low, square-high}
+use Rattle.kernel.proofs.Taylor.{whole, exact, whole-pos, weight, nested, pow-one}
 use Rattle.kernel.proofs.Sums.{short, slight, sizes-small, sum-low, sum-high, sine-slight, sine-short, cosine-slight, cosine-short}
-use Rattle.kernel.proofs.Circle.{sine-unit, cosine-unit}
+use Rattle.kernel.proofs.Circle.{sixteen, sine-unit, cosine-unit}
 
 ruleset sorted = (mul-add, add-mul, mul-assoc, mul-comm, mul-left-comm)
 
@@ -25,17 +26,6 @@ pub record Holds (u w A B I J F : ℕ) (sum : Difference) : Type 0 where
 
 -- ---- the square
 module _ (p q : ℕ) (hq : 0 < q) (hp : p ≤ 4 * q) where
-  x : ℕ
-  x = p * 2 ^ 59 / q
-
-  x-low : x * q ≤ p * 2 ^ 59
-  unfolding x
-  x-low = div-mul-le-self (p * 2 ^ 59) q
-
-  x-high : p * 2 ^ 59 ≤ (x + 1) * q
-  unfolding x
-  x-high = let h : p * 2 ^ 59 < p * 2 ^ 59 / q * q + q = lt-div-mul-add hq in omega arith
-
   pub x-le : p * 2 ^ 59 / q ≤ 2 ^ 61
   x-le = div-le-of-le-mul q (four p q hp)
     where
@@ -46,36 +36,22 @@ module _ (p q : ℕ) (hq : 0 < q) (hp : p ≤ 4 * q) where
   unfolding squareOf
   square-le = div-le-of-le-mul (2 ^ 59) (mul-le-mul x-le x-le)
 
-  square-low : squareOf p q * (q * q) ≤ p * p * 2 ^ 59
-  unfolding squareOf x
-  square-low =
-      let a : x * q * (x * q) ≤ p * 2 ^ 59 * (p * 2 ^ 59) = mul-le-mul x-low x-low in
-      let b : x * x / 2 ^ 59 * 2 ^ 59 ≤ x * x = div-mul-le-self (x * x) (2 ^ 59) in
-      le-of-mul-le-mul-left (go (2 ^ 59) x (x * x / 2 ^ 59) a (mul-le-mul-right (q * q) b)) (pow-pos 59)
-    where
-      go : (C x t : ℕ) → x * q * (x * q) ≤ p * C * (p * C) → t * C * (q * q) ≤ x * x * (q * q) → C * (t * (q * q)) ≤ C * (p * p * C)
-      go C x t a b = simp sorted (omega (arith, simp sorted at a, simp sorted at b))
+  t-low : squareOf p q * (q * q) ≤ p * p * 2 ^ 59
+  unfolding squareOf
+  t-low = square-low p q (2 ^ 59) hq (pow-pos 59)
 
-  square-high : p * p * 2 ^ 59 ≤ (squareOf p q + 9) * (q * q)
-  unfolding squareOf x
-  square-high =
-      let a : p * 2 ^ 59 * (p * 2 ^ 59) ≤ (x + 1) * q * ((x + 1) * q) = mul-le-mul x-high x-high in
-      let b : x * x < x * x / 2 ^ 59 * 2 ^ 59 + 2 ^ 59 = lt-div-mul-add (pow-pos 59) in
-      let l : x ≤ 2 ^ 61 = x-le in
-      let c : (x + 1) * (x + 1) ≤ (x * x / 2 ^ 59 + 9) * 2 ^ 59 = omega arith in
-      le-of-mul-le-mul-left (go (2 ^ 59) (x + 1) (x * x / 2 ^ 59 + 9) a (mul-le-mul-right (q * q) c)) (pow-pos 59)
+  t-high : p * p * 2 ^ 59 ≤ (squareOf p q + 9) * (q * q)
+  unfolding squareOf
+  t-high = square-high p q (2 ^ 59) hq (pow-pos 59) 9 (next (p * 2 ^ 59 / q) (p * 2 ^ 59 / q * (p * 2 ^ 59 / q) / 2 ^ 59) (lt-div-mul-add (pow-pos 59)) x-le)
     where
-      go : (C y t : ℕ) → p * C * (p * C) ≤ y * q * (y * q) → y * y * (q * q) ≤ t * C * (q * q) → C * (p * p * C) ≤ C * (t * (q * q))
-      go C y t a b = simp sorted (omega (arith, simp sorted at a, simp sorted at b))
+      next : (x t : ℕ) → x * x < t * 2 ^ 59 + 2 ^ 59 → x ≤ 2 ^ 61 → (x + 1) * (x + 1) ≤ (t + 9) * 2 ^ 59
+      next x t b l = omega arith
 
-  pub square-small : p < q → squareOf p q ≤ 1 * 2 ^ 59
-  unfolding squareOf x
+  square-small : p < q → squareOf p q ≤ 1 * 2 ^ 59
+  unfolding squareOf
   square-small h =
-      let l : x ≤ 2 ^ 59 = le-of-mul-le-mul-right (le-trans x-low (go (2 ^ 59))) hq in
+      let l : p * 2 ^ 59 / q ≤ 2 ^ 59 = div-le-of-le-mul q (mul-le-mul-right (2 ^ 59) (le-of-lt h)) in
       div-le-of-le-mul (2 ^ 59) (mul-le-mul l l)
-    where
-      go : (C : ℕ) → p * C ≤ C * q
-      go C = let k : p * C ≤ q * C = mul-le-mul-right C (le-of-lt h) in omega arith
 
   -- ---- the sums: to `short` units of x^n / n! / 2^60
   abbrev cut : ℕ → ℕ → Balance
@@ -85,26 +61,11 @@ module _ (p q : ℕ) (hq : 0 < q) (hp : p ≤ 4 * q) where
   qq = mul-pos hq hq
 
   lows : (n k : ℕ) → (cut n k .added * whole (q * q) n k ≤ 2 ^ 60 * exact (p * p) (q * q) n k .added) × (cut n k .taken * whole (q * q) n k ≤ 2 ^ 60 * exact (p * p) (q * q) n k .taken)
-  lows n k = sum-low (squareOf p q) (p * p) (q * q) square-le square-low n k
+  lows n k = sum-low (squareOf p q) (p * p) (q * q) square-le t-low n k
 
   highs : (n k : ℕ) → T (slight n k)
       → (2 ^ 60 * exact (p * p) (q * q) n k .added ≤ (cut n k .added + short n k .added) * whole (q * q) n k) × (2 ^ 60 * exact (p * p) (q * q) n k .taken ≤ (cut n k .taken + short n k .taken) * whole (q * q) n k)
-  highs n k s = sum-high (squareOf p q) (p * p) (q * q) square-le square-high n k s
-
-  carry : (f : Fraction) (u w A B N D : ℕ) → 0 < D → Is f (u * N) (w * D) → A * D ≤ 2 ^ 60 * N → 2 ^ 60 * N ≤ B * D → Held u (w * 2 ^ 60) A B f
-  carry f u w A B N D hD e l h = record {
-    low = le-of-mul-le-mul-right (go-low (f .num) (f .den) (2 ^ 60) e' (mul-le-mul-right (u * f .den) l)) hD;
-    high = le-of-mul-le-mul-right (go-high (f .num) (f .den) (2 ^ 60) e' (mul-le-mul-right (u * f .den) h)) hD;
-  }
-    where
-      e' : 2 ^ 60 * (f .num * (w * D)) ≡ 2 ^ 60 * (u * N * f .den)
-      e' = ap (λ (z : ℕ). 2 ^ 60 * z) e
-
-      go-low : (n d P : ℕ) → P * (n * (w * D)) ≡ P * (u * N * d) → A * D * (u * d) ≤ P * N * (u * d) → A * u * d * D ≤ n * (w * P) * D
-      go-low n d P e l = simp sorted (omega (arith, simp sorted at e, simp sorted at l))
-
-      go-high : (n d P : ℕ) → P * (n * (w * D)) ≡ P * (u * N * d) → P * N * (u * d) ≤ B * D * (u * d) → n * (w * P) * D ≤ B * u * d * D
-      go-high n d P e l = simp sorted (omega (arith, simp sorted at e, simp sorted at l))
+  highs n k s = sum-high (squareOf p q) (p * p) (q * q) square-le t-high n k s
 
   held : (n k : ℕ) → T (slight n k)
       → Held (p ^ n) (weight q n * 2 ^ 60) (cut n k .added) (cut n k .added + short n k .added) (taylor p q n (suc k) .added)
@@ -116,8 +77,8 @@ module _ (p q : ℕ) (hq : 0 < q) (hp : p ≤ 4 * q) where
       let l = lows n k in
       let h = highs n k s in
       let hD = whole-pos (q * q) n k qq in (
-        carry (taylor p q n (suc k) .added) (p ^ n) (weight q n) (cut n k .added) (cut n k .added + short n k .added) (N .added) D hD (i .0) (l .0) (h .0),
-        carry (taylor p q n (suc k) .taken) (p ^ n) (weight q n) (cut n k .taken) (cut n k .taken + short n k .taken) (N .taken) D hD (i .1) (l .1) (h .1),
+        carry (2 ^ 60) (taylor p q n (suc k) .added) (p ^ n) (weight q n) (cut n k .added) (cut n k .added + short n k .added) (N .added) D hD (i .0) (l .0) (h .0),
+        carry (2 ^ 60) (taylor p q n (suc k) .taken) (p ^ n) (weight q n) (cut n k .taken) (cut n k .taken + short n k .taken) (N .taken) D hD (i .1) (l .1) (h .1),
       )
 
   -- ---- their difference is hardly more than 1: u / w * |A - B| ≤ 1 + (1 + F) / P, from the same of the exact sums
@@ -174,9 +135,6 @@ module _ (p q : ℕ) (hq : 0 < q) (hp : p ≤ 4 * q) where
   pub sine-holds : Holds p q (cut 1 20 .added) (cut 1 20 .taken) 31 29 124 (taylor p q 1 21)
   unfolding factorial
   sine-holds = holds 1 20 p q 31 29 124 sine-slight (pow-one p) (one-mul (q ^ 1) ∙ pow-one q) (sine-short .0) (sine-short .1) (omega arith) (omega arith) (sine-unit p q hq hp)
-    where
-      pow-one : (x : ℕ) → x ^ 1 ≡ x
-      pow-one x = pow-suc x 0 ∙ ap (λ (z : ℕ). z * x) (pow-zero x) ∙ one-mul x
 
   -- |sin x / x| ≤ 3/2: for |x| ≥ 1 by the above, and below by the sizes
   pub sine-size : apart (cut 1 20 .added) (cut 1 20 .taken) ≤ 2 ^ 53 * 192
@@ -194,24 +152,21 @@ module _ (p q : ℕ) (hq : 0 < q) (hp : p ≤ 4 * q) where
 
   -- for |x| < 2^-30 the square is cut to nothing
   pub tiny-square : p * 2 ^ 30 < q → squareOf p q ≡ 0
-  unfolding squareOf x
+  unfolding squareOf
   tiny-square h =
-      let l : x < 2 ^ 29 = lt-of-mul-lt-mul-right q (go (x * q) x-low) in
-      div-eq-of-lt (lt-of-le-of-lt (mul-le-mul (le-of-lt l) (le-of-lt l)) (lit< tt))
+      let l : p * 2 ^ 59 / q ≤ 2 ^ 29 = div-le-of-le-mul q (go h) in
+      div-eq-of-lt (lt-of-le-of-lt (mul-le-mul l l) (lit< tt))
     where
-      go : (y : ℕ) → y ≤ p * 2 ^ 59 → y < 2 ^ 29 * q
-      go y k = omega arith
+      go : p * 2 ^ 30 < q → p * 2 ^ 59 ≤ q * 2 ^ 29
+      go h = omega arith
 
   -- ---- cosine, whose first term is 1
   pub cosine-holds : Holds 1 1 (cut 0 21 .added) (cut 0 21 .taken) 123 125 125 (taylor p q 0 22)
   unfolding factorial
   cosine-holds =
-      let c = cosine-unit (p * p) (q * q) (sixteen (mul-le-mul hp hp)) in
+      let c = cosine-unit (p * p) (q * q) (sixteen p q hp) in
       holds 0 21 1 1 123 125 125 cosine-slight (pow-zero p) (one-mul (q ^ 0) ∙ pow-zero q) (cosine-short .0) (cosine-short .1) (omega arith) (omega arith)
       (subst₂ (λ (x y : ℕ). 2 ^ 60 * x ≤ (2 ^ 60 + 1) * y) (sym (one-mul (apart (exact (p * p) (q * q) 0 21 .added) (exact (p * p) (q * q) 0 21 .taken)))) (sym (one-mul (whole (q * q) 0 21))) c)
-    where
-      sixteen : p * p ≤ 4 * q * (4 * q) → p * p ≤ 16 * (q * q)
-      sixteen h = omega arith
 
   pub cosine-size : apart (cut 0 21 .added) (cut 0 21 .taken) ≤ 2 ^ 53 * 129
   cosine-size = go (apart (cut 0 21 .added) (cut 0 21 .taken)) (cosine-holds .gap)

@@ -221,12 +221,15 @@ module _ (a b : ℕ) (h : a ≤ 16 * b) where
       part x y = omega arith
 
 -- of x = p / q
+pub sixteen : (p q : ℕ) → p ≤ 4 * q → p * p ≤ 16 * (q * q)
+sixteen p q h = let k : p * p ≤ 4 * q * (4 * q) = mul-le-mul h h in omega arith
+
 pub sine-unit : (p q : ℕ) → 0 < q → p ≤ 4 * q → 2 ^ 60 * (p * apart (exact (p * p) (q * q) 1 20 .added) (exact (p * p) (q * q) 1 20 .taken)) ≤ (2 ^ 60 + 1) * (q * whole (q * q) 1 20)
 unfolding us vs
 sine-unit p q hq hp =
     let a = p * p in
     let b = q * q in
-    let h : a ≤ 16 * b = sixteen (mul-le-mul hp hp) in
+    let h : a ≤ 16 * b = sixteen p q hp in
     let y = apart (us a b h) (vs a b h) in
     let z = apart (uc a b h) (vc a b h) in
     let x : 2 ^ 60 * (1764 * (a * b) * (y * y)) ≤ (2 ^ 60 + 1) * (whole b 0 21 * whole b 0 21) =
@@ -235,9 +238,6 @@ sine-unit p q hq hp =
     subst (λ (z : ℕ). 2 ^ 60 * (p * z) ≤ (2 ^ 60 + 1) * (q * whole b 1 20)) (ap₂ apart (sym (at-both a b 1 20 .0)) (sym (at-both a b 1 20 .1)))
     (root-le (2 ^ 60) (p * y) (q * whole b 1 20) (cancel (2 ^ 60) (2 ^ 60 + 1) y (whole b 1 20) (subst (λ (w : ℕ). 2 ^ 60 * (1764 * (a * b) * (y * y)) ≤ (2 ^ 60 + 1) * (w * w)) e x)))
   where
-    sixteen : p * p ≤ 4 * q * (4 * q) → p * p ≤ 16 * (q * q)
-    sixteen h = omega arith
-
     part : (x y : ℕ) → x ≤ x + y
     part x y = omega arith
 

@@ -1,11 +1,14 @@
 -- Fractions held between two multiples of a unit u / w, and what follows for sums, orders and bounds. Assumes nothing.
+use mathlib.Core.Path.{_≡_, ap}
 use mathlib.Core.Bool.{Bool, true, false, not}
 use Prim.Native.Nat.{ℕ, _+_, _-_, _*_, _≤_, _<_}
-use native.Mathlib.Nat.{mul-le-mul-right, mul-le-mul-left, le-of-mul-le-mul-right, le-trans}
+use native.Mathlib.Nat.{mul-add, add-mul, mul-assoc, mul-comm, mul-left-comm, mul-le-mul-right, mul-le-mul-left, le-of-mul-le-mul-right, le-trans}
 use native.Mathlib.Omega.{arith}
 use lib.Dec.{T}
 use Rattle.kernel.specs.Fractions.{Fraction, Difference, _over_, _⊞_, times, AtMost, signed, Within}
 use Rattle.kernel.specs.Alternating.{apart}
+
+ruleset sorted = (mul-add, add-mul, mul-assoc, mul-comm, mul-left-comm)
 
 -- lo * u / w ≤ x ≤ hi * u / w
 pub record Held (u w lo hi : ℕ) (x : Fraction) : Type 0 where
@@ -48,6 +51,30 @@ in-order u w l h l' h' x y W a b k =
   where
     go : (n d n' d' : ℕ) → n * w * d' ≤ h * u * d * d' → h * (u * d * d') ≤ l' * (u * d * d') → l' * u * d' * d ≤ n' * w * d → n * d' * w ≤ n' * d * w
     go n d n' d' p q r = omega arith
+
+-- x is N / D
+abbrev pub Is : Fraction → ℕ → ℕ → Type 0
+Is x N D = x .num * D ≡ N * x .den
+
+-- A / P ≤ N / D ≤ B / P brackets u / w * N / D
+pub carry : (P : ℕ) (x : Fraction) (u w A B N D : ℕ) → 0 < D → Is x (u * N) (w * D) → A * D ≤ P * N → P * N ≤ B * D → Held u (w * P) A B x
+carry P x u w A B N D hD e l h = record {
+  low = le-of-mul-le-mul-right (go-low (x .num) (x .den) e' (mul-le-mul-right (u * x .den) l)) hD;
+  high = le-of-mul-le-mul-right (go-high (x .num) (x .den) e' (mul-le-mul-right (u * x .den) h)) hD;
+}
+  where
+    e' : P * (x .num * (w * D)) ≡ P * (u * N * x .den)
+    e' = ap (λ (z : ℕ). P * z) e
+
+    go-low : (n d : ℕ) → P * (n * (w * D)) ≡ P * (u * N * d) → A * D * (u * d) ≤ P * N * (u * d) → A * u * d * D ≤ n * (w * P) * D
+    go-low n d e l = simp sorted (omega (arith, simp sorted at e, simp sorted at l))
+
+    go-high : (n d : ℕ) → P * (n * (w * D)) ≡ P * (u * N * d) → P * N * (u * d) ≤ B * D * (u * d) → n * (w * P) * D ≤ B * u * d * D
+    go-high n d e l = simp sorted (omega (arith, simp sorted at e, simp sorted at l))
+
+-- twice as much, in units twice as large
+pub twice-held : (u w l h : ℕ) (x : Fraction) → Held u (2 * w) l h x → Held u w l h (times 2 x)
+twice-held u w l h x a = record { low = (let p = a .low in omega arith); high = (let p = a .high in omega arith) }
 
 -- ---- the closing that all three functions share
 -- A sum adds A to A + I units and takes B to B + J away, r holds |A - B| units, off by at most d, and e is k units: the sum is within e of r with the sign of A - B.

@@ -1,14 +1,12 @@
 -- The logarithm, as its steps give it, lies near the exact sum. Assumes nothing.
 use mathlib.Core.Path.{_≡_, refl, sym, ap, subst}
-use mathlib.Core.Logic.{_⊎_, inl, inr}
 use mathlib.Core.Bool.{Bool, true, false, cond}
 use Prim.Native.Nat.{ℕ, zero, suc, _+_, _-_, _*_, _^_, _≤_, _<_}
-use native.Mathlib.Nat.{one-mul, mul-le-mul-left, le-refl, le-trans, le-of-eq, eq-zero-or-pos}
+use native.Mathlib.Nat.{one-mul, mul-le-mul-left, le-refl, le-trans, le-of-eq}
 use native.Mathlib.Omega.{arith}
-use lib.Dec.{T, ltb, eqb, eqb→eq, lit≤}
+use lib.Dec.{T, eqb, eqb→eq, lit≤}
 use lib.Pow.{pow-pos}
-use lib.Ieee.{Float, nan, inf, fin, binary64, round, fits}
-use lib.Ieee.Exact.{HasValue}
+use lib.Ieee.{Float, nan, inf, fin, binary64, fits}
 use Rattle.answer.specs.declared.Answer.{Answer}
 use Rattle.answer.specs.declared.Answer.the-variants.{One, Refused}
 use Rattle.kernel.specs.Fractions.{_over_, _⊞_, times}
@@ -17,7 +15,7 @@ use Rattle.kernel.specs.Alternating.{apart}
 use Rattle.kernel.specs.Logarithm.{partOf, third, logarithmAt, logarithmOf}
 use Rattle.kernel.specs.Split.{places-middle, places-le, units-pos, units-lt}
 use Rattle.kernel.proofs.Held.{Held, wider, sum-held, times-held}
-use Rattle.kernel.proofs.Rounds.{Shows, shown, zero-exact, normal, plain, closes}
+use Rattle.kernel.proofs.Rounds.{in-range, closes, plainly}
 use Rattle.kernel.proofs.Odds.{part-held, part-le, third-held}
 
 -- k S(1/3) + S(a / b), for a / b ≤ 1/5
@@ -31,9 +29,6 @@ side-held k a b B f =
     sums t s = omega arith
 
 module _ (N : ℕ) (pos : 0 < N) (small : N < 2 ^ 2098) where
-  w : ℕ
-  w = places N
-
   i : ℕ
   i = places N - 1074
 
@@ -83,24 +78,15 @@ module _ (N : ℕ) (pos : 0 < N) (small : N < 2 ^ 2098) where
       go : (i j a b : ℕ) → i ≤ 1024 → j ≤ 1074 → a ≤ 2 ^ 61 → b ≤ 2 ^ 61 → (apart (i * third + a) (j * third + b) ≤ 2 ^ 53 * (355 * (i + j) + 256)) × (apart (i * third + a) (j * third + b) ≤ 2 ^ 11 * 2 ^ 62)
       go i j a b hi hj ha hb = (omega arith, omega arith)
 
-  log-shown : Shows (Held 1 (2 ^ 62) (apart A B - miss) (apart A B + miss)) (ltb A B) (logarithmAt N)
-  unfolding logarithmAt A B
-  log-shown =
-      subst (λ (a : ℕ). Shows (Held 1 (2 ^ 62) (apart A B - miss) (apart A B + miss)) (ltb A B) (round binary64 (ltb A B) a (2 ^ 62))) (one-mul (apart A B))
-      (shown (ltb A B) 1 1 (2 ^ 62) (apart A B) miss (pow-pos 62) (gap-le .0) (le-trans (le-of-eq (one-mul (apart A B))) (gap-le .1)) (go (eq-zero-or-pos (apart A B))))
-    where
-      go : (apart A B ≡ 0) ⊎ (0 < apart A B)
-          → (2 ^ 52 * (1 * 2 ^ 62) ≤ 1 * apart A B * 2 ^ 1074) ⊎ HasValue (round binary64 (ltb A B) (1 * apart A B) (1 * 2 ^ 62)) (ltb A B) (1 * apart A B) (1 * 2 ^ 62)
-      go (inr z) = inl (normal 1 1 (apart A B) (2 ^ 52) (2 ^ 62) 1 (2 ^ 1074) (lit≤ tt) (lit≤ tt) z)
-      go (inl z) = inr (subst (λ (g : ℕ). HasValue (round binary64 (ltb A B) (1 * g) (1 * 2 ^ 62)) (ltb A B) (1 * g) (1 * 2 ^ 62)) (sym z) (zero-exact (ltb A B) 1 (1 * 2 ^ 62) (pow-pos 62)))
-
   log-close : (c d : ℕ) → c * 2 ^ d ≡ 2 ^ 62 → 512 ≤ c → Close ((places N - 1074 + (1074 - places N) + 1) over 2 ^ d) (logarithmic N) false (logarithmAt N)
-  unfolding logarithmic A B miss i j
+  unfolding logarithmic logarithmAt A B miss i j
   log-close c d e l =
-      closes 1 (2 ^ 62) A B (i + 3) (j + 3) miss ((i + j + 1) * c) (pow-pos 62) ((i + j + 1) over 2 ^ d) (logarithmic N)
-      (side-held i (N - 2 ^ places N) (N + 2 ^ places N) sum-pos over-fifth) (side-held j (2 ^ places N - N) (N + 2 ^ places N) sum-pos under-fifth)
-      (unit (2 ^ d) (2 ^ 62) (i + j + 1) e) (enough i j i (part-one i j)) (enough i j j (part-two i j)) false (logarithmAt N)
-      (subst (λ (b : Bool). Shows (Held 1 (2 ^ 62) (apart A B - miss) (apart A B + miss)) b (logarithmAt N)) (plain (ltb A B)) log-shown)
+      let a = side-held i (N - 2 ^ places N) (N + 2 ^ places N) sum-pos over-fifth in
+      let b = side-held j (2 ^ places N - N) (N + 2 ^ places N) sum-pos under-fifth in
+      let m : 1 * apart A B ≤ 2 ^ 11 * 2 ^ 62 = le-trans (le-of-eq (one-mul (apart A B))) (gap-le .1) in
+      subst (Close ((i + j + 1) over 2 ^ d) (logarithmic N) false) (plainly (2 ^ 62) A B)
+      (closes false 1 1 (2 ^ 62) A B (i + 3) (j + 3) miss (pow-pos 62) (logarithmic N) a b (gap-le .0) m (in-range false 1 1 (2 ^ 62) A B (i + 3) (j + 3) miss (pow-pos 62) (logarithmic N) a b (gap-le .0) m 1 (lit≤ tt) (lit≤ tt))
+      ((i + j + 1) * c) ((i + j + 1) over 2 ^ d) (unit (2 ^ d) (2 ^ 62) (i + j + 1) e) (enough i j i (part-one i j)) (enough i j j (part-two i j)))
     where
       unit : (D P n : ℕ) → c * D ≡ P → Held 1 P (n * c) (n * c) (n over D)
       unit D P n h = let x : n * (c * D) ≡ n * P = ap (λ (z : ℕ). n * z) h in record { low = (omega arith); high = (omega arith) }

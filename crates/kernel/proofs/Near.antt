@@ -1,9 +1,9 @@
 -- Sine and cosine, as their steps give them, lie near the exact sums and within ±1. One closing for both. Assumes nothing.
 use mathlib.Core.Path.{_≡_, refl, sym, ap, _∙_, subst}
-use mathlib.Core.Logic.{_⊎_, inl, inr}
+use mathlib.Core.Logic.{_⊎_, inr}
 use mathlib.Core.Bool.{Bool, true, false, not, cond}
-use Prim.Native.Nat.{ℕ, _+_, _-_, _*_, _^_, _≤_, _<_}
-use native.Mathlib.Nat.{mul-add, add-mul, mul-assoc, mul-comm, mul-left-comm, one-mul, mul-pos, le-trans, eq-zero-or-pos}
+use Prim.Native.Nat.{ℕ, _+_, _*_, _^_, _≤_, _<_}
+use native.Mathlib.Nat.{mul-add, add-mul, mul-assoc, mul-comm, mul-left-comm, mul-pos, le-trans}
 use native.Mathlib.Omega.{arith}
 use lib.IntN.{ℤ}
 use lib.Dec.{T, leb, ltb, leb→le, nleb→lt, nltb→le, lit≤}
@@ -21,8 +21,8 @@ use Rattle.kernel.specs.Alternating.{squareOf, alternatingOf, apart, upT
 use Rattle.kernel.specs.Sine.{sineAt, sineOf}
 use Rattle.kernel.specs.Cosine.{cosineAt, cosineOf}
 use Rattle.kernel.proofs.Held.{Held}
-use Rattle.kernel.proofs.Rounds.{Shows, shown, zero-exact, size-le, normal, plain, closes}
-use Rattle.kernel.proofs.Angles.{sine-holds, sine-size, tiny-square, cosine-holds, cosine-size}
+use Rattle.kernel.proofs.Rounds.{in-range, closes, stays, plainly}
+use Rattle.kernel.proofs.Angles.{Holds, sine-holds, sine-size, tiny-square, cosine-holds, cosine-size}
 
 ruleset sorted = (mul-add, add-mul, mul-assoc, mul-comm, mul-left-comm)
 
@@ -34,29 +34,40 @@ module _ (s : Bool) (m : ℕ) (e : ℤ) (f : T (fits binary64 (fin s m e))) (hp 
   abbrev q : ℕ
   q = down e
 
-  abbrev value : ℕ → Float
-  value t = round binary64 (unlike s (ltb (alternatingOf t 1 20 .added) (alternatingOf t 1 20 .taken))) (p * apart (alternatingOf t 1 20 .added) (alternatingOf t 1 20 .taken)) (q * 2 ^ 60)
+  Q : 0 < q * 2 ^ 60
+  Q = mul-pos (down-pos e) (pow-pos 60)
+
+  H : Holds p q (alternatingOf (squareOf p q) 1 20 .added) (alternatingOf (squareOf p q) 1 20 .taken) 31 29 124 (taylor p q 1 21)
+  H = sine-holds p q (down-pos e) hp
+
+  most : p * apart (alternatingOf (squareOf p q) 1 20 .added) (alternatingOf (squareOf p q) 1 20 .taken) ≤ 2 ^ 11 * (q * 2 ^ 60)
+  most = le-trans (H .gap) (large q)
+    where
+      large : (q : ℕ) → (2 ^ 60 + 1 + 124) * q ≤ 2 ^ 11 * (q * 2 ^ 60)
+      large q = omega arith
 
   abbrev IsExact : ℕ → Type 0
   IsExact t =
-      HasValue (value t) (unlike s (ltb (alternatingOf t 1 20 .added) (alternatingOf t 1 20 .taken))) (p * apart (alternatingOf t 1 20 .added) (alternatingOf t 1 20 .taken)) (q * 2 ^ 60)
+      let b = alternatingOf t 1 20 in
+      let s' = unlike s (ltb (b .added) (b .taken)) in
+      HasValue (round binary64 s' (p * apart (b .added) (b .taken)) (q * 2 ^ 60)) s' (p * apart (b .added) (b .taken)) (q * 2 ^ 60)
 
   -- with no square left the sum is 1, and sine x is x
   tiny : IsExact 0
   unfolding alternatingOf
   tiny =
-      subst (λ (b : Bool). HasValue (round binary64 b (p * 2 ^ 60) (q * 2 ^ 60)) b (p * 2 ^ 60) (q * 2 ^ 60)) (sym (plain s))
+      subst (λ (b : Bool). HasValue (round binary64 b (p * 2 ^ 60) (q * 2 ^ 60)) b (p * 2 ^ 60) (q * 2 ^ 60)) (sym (kept s))
       (subst (λ (r : Float). HasValue r s (p * 2 ^ 60) (q * 2 ^ 60)) (sym own) (refl, move p q (2 ^ 60)))
     where
-      plain : (s : Bool) → unlike s false ≡ s
-      plain true = refl
-      plain false = refl
+      kept : (s : Bool) → unlike s false ≡ s
+      kept true = refl
+      kept false = refl
 
       move : (p q K : ℕ) → p * (q * K) ≡ p * K * q
       move p q K = simp (mul-assoc, mul-comm, mul-left-comm)
 
       own : round binary64 s (p * 2 ^ 60) (q * 2 ^ 60) ≡ fin s m e
-      own = round-same binary64 s (p * 2 ^ 60) (q * 2 ^ 60) p q (mul-pos (down-pos e) (pow-pos 60)) (down-pos e) (sym (move p q (2 ^ 60))) ∙ round-self binary64 s m e f
+      own = round-same binary64 s (p * 2 ^ 60) (q * 2 ^ 60) p q Q (down-pos e) (sym (move p q (2 ^ 60))) ∙ round-self binary64 s m e f
 
   A : ℕ
   A = alternatingOf (squareOf p q) 1 20 .added
@@ -64,26 +75,18 @@ module _ (s : Bool) (m : ℕ) (e : ℤ) (f : T (fits binary64 (fin s m e))) (hp 
   B : ℕ
   B = alternatingOf (squareOf p q) 1 20 .taken
 
-  sine-shown : Shows (Held p (q * 2 ^ 60) (apart A B - 192) (apart A B + 192)) (unlike s (ltb A B)) (sineAt s p q)
-  unfolding sineAt A B
-  sine-shown =
-      shown (unlike s (ltb A B)) p q (2 ^ 60) (apart A B) 192 (mul-pos (down-pos e) (pow-pos 60)) (sine-size p q (down-pos e) hp) (le-trans (sine-holds p q (down-pos e) hp .gap) (large q)) (go (leb q (p * 2 ^ 30)) (leb→le q (p * 2 ^ 30)) (nleb→lt q (p * 2 ^ 30)) (eq-zero-or-pos (apart A B)))
+  range : (2 ^ 52 * (q * 2 ^ 60) ≤ p * apart A B * 2 ^ 1074) ⊎ IsExact (squareOf p q)
+  unfolding A B
+  range = go (leb q (p * 2 ^ 30)) (leb→le q (p * 2 ^ 30)) (nleb→lt q (p * 2 ^ 30))
     where
-      large : (q : ℕ) → (2 ^ 60 + 1 + 124) * q ≤ 2 ^ 11 * (q * 2 ^ 60)
-      large q = omega arith
-
-      go : (b : Bool) → (T b → q ≤ p * 2 ^ 30) → (T (not b) → p * 2 ^ 30 < q) → (apart A B ≡ 0) ⊎ (0 < apart A B)
-          → (2 ^ 52 * (q * 2 ^ 60) ≤ p * apart A B * 2 ^ 1074) ⊎ HasValue (round binary64 (unlike s (ltb A B)) (p * apart A B) (q * 2 ^ 60)) (unlike s (ltb A B)) (p * apart A B) (q * 2 ^ 60)
-      go false h k z = inr (subst IsExact (sym (tiny-square p q (down-pos e) hp (k tt))) tiny)
-      go true h k (inr z) = inl (normal p q (apart A B) (2 ^ 52) (2 ^ 60) (2 ^ 30) (2 ^ 1074) (h tt) (lit≤ tt) z)
-      go true h k (inl z) =
-          inr (subst (λ (g : ℕ). HasValue (round binary64 (unlike s (ltb A B)) (p * g) (q * 2 ^ 60)) (unlike s (ltb A B)) (p * g) (q * 2 ^ 60)) (sym z) (zero-exact (unlike s (ltb A B)) p (q * 2 ^ 60) (mul-pos (down-pos e) (pow-pos 60))))
+      go : (b : Bool) → (T b → q ≤ p * 2 ^ 30) → (T (not b) → p * 2 ^ 30 < q) → (2 ^ 52 * (q * 2 ^ 60) ≤ p * apart A B * 2 ^ 1074) ⊎ IsExact (squareOf p q)
+      go false h k = inr (subst IsExact (sym (tiny-square p q (down-pos e) hp (k tt))) tiny)
+      go true h k = in-range s p q (2 ^ 60) A B 31 29 192 Q (taylor p q 1 21) (H .added) (H .taken) (sine-size p q (down-pos e) hp) most (2 ^ 30) (h tt) (lit≤ tt)
 
   sine-close : (k d : ℕ) → k * 2 ^ d ≡ 2 ^ 60 → 256 ≤ k → Close (p over (q * 2 ^ d)) (taylor p q 1 21) s (sineAt s p q)
-  unfolding A B
+  unfolding sineAt A B
   sine-close k d e' l =
-      let H = sine-holds p q (down-pos e) hp in
-      closes p (q * 2 ^ 60) A B 31 29 192 k (mul-pos (down-pos e) (pow-pos 60)) (p over (q * 2 ^ d)) (taylor p q 1 21) (H .added) (H .taken) (unit p q (2 ^ d) (2 ^ 60) e') (omega arith) (omega arith) s (sineAt s p q) sine-shown
+      closes s p q (2 ^ 60) A B 31 29 192 Q (taylor p q 1 21) (H .added) (H .taken) (sine-size p q (down-pos e) hp) most range k (p over (q * 2 ^ d)) (unit p q (2 ^ d) (2 ^ 60) e') (omega arith) (omega arith)
     where
       unit : (p q D P : ℕ) → k * D ≡ P → Held p (q * P) k k (p over (q * D))
       unit p q D P h =
@@ -92,48 +95,44 @@ module _ (s : Bool) (m : ℕ) (e : ℤ) (f : T (fits binary64 (fin s m e))) (hp 
 
   sine-le : (t : Bool) (n : ℕ) (g : ℤ) → sineAt s p q ≡ fin t n g → AtMost (n * up g over down g) (1 over 1)
   unfolding sineAt A B
-  sine-le =
-      size-le (p * apart A B) (q * 2 ^ 60) (mul-pos (down-pos e) (pow-pos 60)) (enough q (p * apart A B) (sine-holds p q (down-pos e) hp .gap)) (unlike s (ltb A B))
-      (Held p (q * 2 ^ 60) (apart A B - 192) (apart A B + 192)) sine-shown
+  sine-le = stays s p q (2 ^ 60) A B 31 29 192 Q (taylor p q 1 21) (H .added) (H .taken) (sine-size p q (down-pos e) hp) most range (enough q (p * apart A B) (H .gap))
     where
       enough : (q a : ℕ) → a ≤ (2 ^ 60 + 1 + 124) * q → a * 2 ^ 53 ≤ (2 ^ 53 + 1) * (q * 2 ^ 60)
       enough q a h = omega arith
 
 -- ---- cosine
-module _ (p q : ℕ) (hq : 0 < q) (hp : p ≤ 4 * q) where
+module _ (p q : ℕ) (hq : 0 < q) (hp : p ≤ 4 * q) (s : Bool) where
   C : ℕ
   C = alternatingOf (squareOf p q) 0 21 .added
 
   D : ℕ
   D = alternatingOf (squareOf p q) 0 21 .taken
 
-  cosine-shown : (s : Bool) → Shows (Held 1 (1 * 2 ^ 60) (apart C D - 129) (apart C D + 129)) (ltb C D) (cosineAt s p q)
-  unfolding cosineAt C D
-  cosine-shown s =
-      subst (λ (a : ℕ). Shows (Held 1 (1 * 2 ^ 60) (apart C D - 129) (apart C D + 129)) (ltb C D) (round binary64 (ltb C D) a (2 ^ 60))) (one-mul (apart C D))
-      (shown (ltb C D) 1 1 (2 ^ 60) (apart C D) 129 (pow-pos 60) (cosine-size p q hq hp) (le-trans (cosine-holds p q hq hp .gap) (lit≤ tt)) (go (eq-zero-or-pos (apart C D))))
-    where
-      go : (apart C D ≡ 0) ⊎ (0 < apart C D)
-          → (2 ^ 52 * (1 * 2 ^ 60) ≤ 1 * apart C D * 2 ^ 1074) ⊎ HasValue (round binary64 (ltb C D) (1 * apart C D) (1 * 2 ^ 60)) (ltb C D) (1 * apart C D) (1 * 2 ^ 60)
-      go (inr z) = inl (normal 1 1 (apart C D) (2 ^ 52) (2 ^ 60) 1 (2 ^ 1074) (lit≤ tt) (lit≤ tt) z)
-      go (inl z) = inr (subst (λ (g : ℕ). HasValue (round binary64 (ltb C D) (1 * g) (1 * 2 ^ 60)) (ltb C D) (1 * g) (1 * 2 ^ 60)) (sym z) (zero-exact (ltb C D) 1 (1 * 2 ^ 60) (pow-pos 60)))
-
-  cosine-close : (k d : ℕ) → k * 2 ^ d ≡ 2 ^ 60 → 256 ≤ k → (s : Bool) → Close (1 over 2 ^ d) (taylor p q 0 22) false (cosineAt s p q)
+  K : Holds 1 1 C D 123 125 125 (taylor p q 0 22)
   unfolding C D
-  cosine-close k d e l s =
-      let H = cosine-holds p q hq hp in
-      closes 1 (1 * 2 ^ 60) C D 123 125 129 k (pow-pos 60) (1 over 2 ^ d) (taylor p q 0 22) (H .added) (H .taken) (unit (2 ^ d) (2 ^ 60) e) (omega arith) (omega arith) false (cosineAt s p q)
-      (subst (λ (b : Bool). Shows (Held 1 (1 * 2 ^ 60) (apart C D - 129) (apart C D + 129)) b (cosineAt s p q)) (plain (ltb C D)) (cosine-shown s))
+  K = cosine-holds p q hq hp
+
+  cosine-most : 1 * apart C D ≤ 2 ^ 11 * (1 * 2 ^ 60)
+  cosine-most = le-trans (K .gap) (lit≤ tt)
+
+  cosine-close : (k d : ℕ) → k * 2 ^ d ≡ 2 ^ 60 → 256 ≤ k → Close (1 over 2 ^ d) (taylor p q 0 22) false (cosineAt s p q)
+  unfolding cosineAt C D
+  cosine-close k d e l =
+      subst (Close (1 over 2 ^ d) (taylor p q 0 22) false) (plainly (2 ^ 60) C D)
+      (closes false 1 1 (2 ^ 60) C D 123 125 129 (pow-pos 60) (taylor p q 0 22) (K .added) (K .taken) (cosine-size p q hq hp) cosine-most
+      (in-range false 1 1 (2 ^ 60) C D 123 125 129 (pow-pos 60) (taylor p q 0 22) (K .added) (K .taken) (cosine-size p q hq hp) cosine-most 1 (lit≤ tt) (lit≤ tt)) k (1 over 2 ^ d) (unit (2 ^ d) (2 ^ 60) e) (omega arith) (omega arith))
     where
       unit : (D P : ℕ) → k * D ≡ P → Held 1 (1 * P) k k (1 over D)
       unit D P h = record { low = (omega arith); high = (omega arith) }
 
-  cosine-le : (s : Bool) (t : Bool) (n : ℕ) (g : ℤ) → cosineAt s p q ≡ fin t n g → AtMost (n * up g over down g) (1 over 1)
+  cosine-le : (t : Bool) (n : ℕ) (g : ℤ) → cosineAt s p q ≡ fin t n g → AtMost (n * up g over down g) (1 over 1)
   unfolding cosineAt C D
-  cosine-le s =
-      size-le (apart C D) (2 ^ 60) (pow-pos 60) (enough (apart C D) (cosine-holds p q hq hp .gap)) (ltb C D) (Held 1 (1 * 2 ^ 60) (apart C D - 129) (apart C D + 129)) (cosine-shown s)
+  cosine-le t n g e =
+      stays false 1 1 (2 ^ 60) C D 123 125 129 (pow-pos 60) (taylor p q 0 22) (K .added) (K .taken) (cosine-size p q hq hp) cosine-most
+      (in-range false 1 1 (2 ^ 60) C D 123 125 129 (pow-pos 60) (taylor p q 0 22) (K .added) (K .taken) (cosine-size p q hq hp) cosine-most 1 (lit≤ tt) (lit≤ tt))
+      (enough (1 * apart C D) (K .gap)) t n g (plainly (2 ^ 60) C D ∙ e)
     where
-      enough : (a : ℕ) → 1 * a ≤ (2 ^ 60 + 1 + 125) * 1 → a * 2 ^ 53 ≤ (2 ^ 53 + 1) * 2 ^ 60
+      enough : (a : ℕ) → a ≤ (2 ^ 60 + 1 + 125) * 1 → a * 2 ^ 53 ≤ (2 ^ 53 + 1) * (1 * 2 ^ 60)
       enough a h = omega arith
 
 -- ---- the answers
@@ -167,7 +166,7 @@ sine-within k d h l = angle sineAt (λ (s : Bool) (p q : ℕ). Answers (p over (
 
 pub cosine-within : (k d : ℕ) → k * 2 ^ d ≡ 2 ^ 60 → 256 ≤ k → (x : Float) → T (fits binary64 x) → CosineWithin d x (cosineOf x)
 unfolding CosineWithin Answers cosineOf
-cosine-within k d h l = angle cosineAt (λ (s : Bool) (p q : ℕ). Answers (1 over 2 ^ d) (taylor p q 0 22) false) (λ s m e f c. cosine-close (m * up e) (down e) (down-pos e) c k d h l s)
+cosine-within k d h l = angle cosineAt (λ (s : Bool) (p q : ℕ). Answers (1 over 2 ^ d) (taylor p q 0 22) false) (λ s m e f c. cosine-close (m * up e) (down e) (down-pos e) c s k d h l)
 
 pub sine-up-to-one : (x : Float) → T (fits binary64 x) → UpToOne (sineOf x)
 unfolding sineOf

@@ -1,14 +1,15 @@
 -- The sum of the logarithm, S(p / q) = 2 (t + t³ / 3 + ..): `partOf` holds it to 3 units. Assumes nothing.
 use mathlib.Core.Path.{_≡_, sym, ap, _∙_, subst₂}
 use Prim.Native.Nat.{ℕ, zero, suc, _+_, _*_, _/_, _^_, _≤_, _<_, zero-le}
-use native.Mathlib.Nat.{mul-add, add-mul, mul-assoc, mul-comm, mul-left-comm, one-mul, pow-suc, pow-zero, mul-pos, mul-le-mul, mul-le-mul-right, mul-le-mul-left, le-trans, le-of-lt, le-of-mul-le-mul-right, le-of-mul-le-mul-left, zero-lt-suc, div-mul-le-self, lt-div-mul-add, div-le-of-le-mul, div-le-self}
+use native.Mathlib.Nat.{mul-add, add-mul, mul-assoc, mul-comm, mul-left-comm, one-mul, mul-pos, mul-le-mul, mul-le-mul-right, mul-le-mul-left, le-trans, le-of-lt, le-of-mul-le-mul-right, le-of-mul-le-mul-left, zero-lt-suc, div-mul-le-self, lt-div-mul-add, div-le-of-le-mul, div-le-self}
 use native.Mathlib.Omega.{arith}
 use lib.Dec.{lit≤}
 use lib.Pow.{pow-pos}
 use Rattle.kernel.specs.Series.{odds, S}
 use Rattle.kernel.specs.Logarithm.{oddsOf, partOf, third}
-use Rattle.kernel.proofs.Held.{Held}
-use Rattle.kernel.proofs.Taylor.{Is, pow-two-more}
+use Rattle.kernel.proofs.Held.{Held, Is, carry, twice-held}
+use Rattle.kernel.proofs.Squares.{cut-low, cut-high, square-low, square-high}
+use Rattle.kernel.proofs.Taylor.{pow-one, pow-two-more}
 
 ruleset sorted = (mul-add, add-mul, mul-assoc, mul-comm, mul-left-comm)
 
@@ -112,54 +113,27 @@ module _ (p q : ℕ) (hq : 0 < q) (fifth : 5 * p ≤ q) where
   t : ℕ
   t = p * 2 ^ 64 / q
 
-  t-low : t * q ≤ p * 2 ^ 64
-  unfolding t
-  t-low = div-mul-le-self (p * 2 ^ 64) q
-
-  t-high : p * 2 ^ 64 ≤ (t + 1) * q
-  unfolding t
-  t-high = let h : p * 2 ^ 64 < p * 2 ^ 64 / q * q + q = lt-div-mul-add hq in omega arith
-
   pub t-le : 5 * (p * 2 ^ 64 / q) ≤ 2 ^ 64
-  unfolding t
-  t-le = le-of-mul-le-mul-right (go (2 ^ 64) t t-low) hq
+  t-le = le-of-mul-le-mul-right (go (2 ^ 64) (p * 2 ^ 64 / q) (cut-low p q (2 ^ 64) hq (pow-pos 64))) hq
     where
       go : (C t : ℕ) → t * q ≤ p * C → 5 * t * q ≤ C * q
       go C t h = let k : 5 * p * C ≤ q * C = mul-le-mul-right C fifth in omega arith
 
-  abbrev w : ℕ
-  w = t * t / 2 ^ 64
-
   pub w-le : p * 2 ^ 64 / q * (p * 2 ^ 64 / q) / 2 ^ 64 ≤ 2 ^ 60
-  unfolding t
-  w-le = div-le-of-le-mul (2 ^ 64) (le-trans (mul-le-mul (quarter t t-le) (quarter t t-le)) (lit≤ tt))
+  w-le = div-le-of-le-mul (2 ^ 64) (le-trans (mul-le-mul (quarter (p * 2 ^ 64 / q) t-le) (quarter (p * 2 ^ 64 / q) t-le)) (lit≤ tt))
     where
       quarter : (t : ℕ) → 5 * t ≤ 2 ^ 64 → t ≤ 2 ^ 62
       quarter t h = omega arith
 
-  w-low : w * (q * q) ≤ p * p * 2 ^ 64
-  w-low =
-      let a : t * q * (t * q) ≤ p * 2 ^ 64 * (p * 2 ^ 64) = mul-le-mul t-low t-low in
-      let b : w * 2 ^ 64 ≤ t * t = div-mul-le-self (t * t) (2 ^ 64) in
-      le-of-mul-le-mul-left (go (2 ^ 64) t w a (mul-le-mul-right (q * q) b)) (pow-pos 64)
-    where
-      go : (C t w : ℕ) → t * q * (t * q) ≤ p * C * (p * C) → w * C * (q * q) ≤ t * t * (q * q) → C * (w * (q * q)) ≤ C * (p * p * C)
-      go C t w a b = simp sorted (omega (arith, simp sorted at a, simp sorted at b))
+  w : ℕ
+  w = t * t / 2 ^ 64
 
   w-high : p * p * 2 ^ 64 ≤ (w + 2) * (q * q)
-  unfolding t
-  w-high =
-      let a : p * 2 ^ 64 * (p * 2 ^ 64) ≤ (t + 1) * q * ((t + 1) * q) = mul-le-mul t-high t-high in
-      let b : t * t < w * 2 ^ 64 + 2 ^ 64 = lt-div-mul-add (pow-pos 64) in
-      let l : 5 * t ≤ 2 ^ 64 = t-le in
-      let c : (t + 1) * (t + 1) ≤ (w + 2) * 2 ^ 64 = next (2 ^ 64) t w b l in
-      le-of-mul-le-mul-left (go (2 ^ 64) (t + 1) (w + 2) a (mul-le-mul-right (q * q) c)) (pow-pos 64)
+  unfolding w t
+  w-high = square-high p q (2 ^ 64) hq (pow-pos 64) 2 (next (2 ^ 64) (p * 2 ^ 64 / q) (p * 2 ^ 64 / q * (p * 2 ^ 64 / q) / 2 ^ 64) (lt-div-mul-add (pow-pos 64)) t-le)
     where
       next : (C t w : ℕ) → t * t < w * C + C → 5 * t ≤ C → (t + 1) * (t + 1) ≤ (w + 2) * C
       next C t w b l = omega arith
-
-      go : (C y w : ℕ) → p * C * (p * C) ≤ y * q * (y * q) → y * y * (q * q) ≤ w * C * (q * q) → C * (p * p * C) ≤ C * (w * (q * q))
-      go C y w a b = simp sorted (omega (arith, simp sorted at a, simp sorted at b))
 
   h : ℕ
   h = oddsOf w 1 21
@@ -172,22 +146,22 @@ module _ (p q : ℕ) (hq : 0 < q) (fifth : 5 * p ≤ q) where
 
   -- t h against p / q * N / D
   part-low : t * h / 2 ^ 64 * (q * D) ≤ 2 ^ 63 * (p * N)
-  unfolding h D N t
+  unfolding h D N w t
   part-low =
       let x₁ : t * h / 2 ^ 64 * 2 ^ 64 ≤ t * h = div-mul-le-self (t * h) (2 ^ 64) in
-      let x₂ : t * q * (h * D) ≤ p * 2 ^ 64 * (2 ^ 63 * N) = mul-le-mul t-low (odds-low w (p * p) (q * q) w-le w-low 1 21) in
+      let x₂ : t * q * (h * D) ≤ p * 2 ^ 64 * (2 ^ 63 * N) = mul-le-mul (cut-low p q (2 ^ 64) hq (pow-pos 64)) (odds-low w (p * p) (q * q) w-le (square-low p q (2 ^ 64) hq (pow-pos 64)) 1 21) in
       le-of-mul-le-mul-left (go (2 ^ 64) (2 ^ 63) t h D N (t * h / 2 ^ 64) (mul-le-mul-right (q * D) x₁) x₂) (pow-pos 64)
     where
       go : (C P t h D N v : ℕ) → v * C * (q * D) ≤ t * h * (q * D) → t * q * (h * D) ≤ p * C * (P * N) → C * (v * (q * D)) ≤ C * (P * (p * N))
       go C P t h D N v a b = simp sorted (omega (arith, simp sorted at a, simp sorted at b))
 
   part-high : 2 ^ 63 * (p * N) ≤ (t * h / 2 ^ 64 + 3) * (q * D)
-  unfolding h D N t
+  unfolding h D N w t
   part-high =
       let v = t * h / 2 ^ 64 in
       let x₁ : t * h < v * 2 ^ 64 + 2 ^ 64 = lt-div-mul-add (pow-pos 64) in
       let x₂ : (t + 1) * (h + 4) ≤ (v + 3) * (16 * 2 ^ 60) = room (2 ^ 60) t h v x₁ t-le (odds-le w 1 21 w-le) (lit≤ tt) in
-      let x₃ : p * 2 ^ 64 * (2 ^ 63 * N) ≤ (t + 1) * q * ((h + 4) * D) = mul-le-mul t-high (odds-high w (p * p) (q * q) w-le w-high 1 21 (lit≤ tt)) in
+      let x₃ : p * 2 ^ 64 * (2 ^ 63 * N) ≤ (t + 1) * q * ((h + 4) * D) = mul-le-mul (cut-high p q (2 ^ 64) hq (pow-pos 64)) (odds-high w (p * p) (q * q) w-le w-high 1 21 (lit≤ tt)) in
       le-of-mul-le-mul-left (go (2 ^ 64) (2 ^ 63) (t + 1) (h + 4) D N (v + 3) (mul-le-mul-right (q * D) x₂) x₃) (pow-pos 64)
     where
       room : (U t h v : ℕ) → t * h < v * (16 * U) + 16 * U → 5 * t ≤ 16 * U → h ≤ 9 * U → 4 ≤ U → (t + 1) * (h + 4) ≤ (v + 3) * (16 * U)
@@ -197,33 +171,16 @@ module _ (p q : ℕ) (hq : 0 < q) (fifth : 5 * p ≤ q) where
       go C P y z D N v a b = simp sorted (omega (arith, simp sorted at a, simp sorted at b))
 
   pub part-held : Held 1 (2 ^ 62) (partOf p q) (partOf p q + 3) (S p q)
-  unfolding partOf h D N t
+  unfolding partOf h D N w t
   part-held =
       let f = odds p q 1 21 in
-      let e : f .num * (q * D) ≡ p * N * f .den = subst₂ (λ (x y : ℕ). f .num * (y * D) ≡ x * N * f .den) (pow-one p) (pow-one q) (nested p q 1 21) in
-      let Z = mul-pos hq (bottom-pos (q * q) 1 21 (mul-pos hq hq) (lit≤ tt)) in
-      record {
-        low = le-of-mul-le-mul-right (go-low (2 ^ 62) D N (f .num) (f .den) (partOf p q) e part-low) Z;
-        high = le-of-mul-le-mul-right (go-high (2 ^ 62) D N (f .num) (f .den) (partOf p q + 3) e part-high) Z;
-      }
-    where
-      pow-one : (x : ℕ) → x ^ 1 ≡ x
-      pow-one x = pow-suc x 0 ∙ ap (λ (z : ℕ). z * x) (pow-zero x) ∙ one-mul x
-
-      go-low : (U D N n d v : ℕ) → n * (q * D) ≡ p * N * d → v * (q * D) ≤ 2 * U * (p * N) → v * 1 * d * (q * D) ≤ 2 * n * U * (q * D)
-      go-low U D N n d v e l =
-          let a : v * (q * D) * d ≤ 2 * U * (p * N) * d = mul-le-mul-right d l in
-          let b : 2 * U * (n * (q * D)) ≡ 2 * U * (p * N * d) = ap (λ (z : ℕ). 2 * U * z) e in
-          simp sorted (omega (arith, simp sorted at a, simp sorted at b))
-
-      go-high : (U D N n d v : ℕ) → n * (q * D) ≡ p * N * d → 2 * U * (p * N) ≤ v * (q * D) → 2 * n * U * (q * D) ≤ v * 1 * d * (q * D)
-      go-high U D N n d v e l =
-          let a : 2 * U * (p * N) * d ≤ v * (q * D) * d = mul-le-mul-right d l in
-          let b : 2 * U * (n * (q * D)) ≡ 2 * U * (p * N * d) = ap (λ (z : ℕ). 2 * U * z) e in
-          simp sorted (omega (arith, simp sorted at a, simp sorted at b))
+      let e : Is f (1 * (p * N)) (1 * (q * D)) =
+      subst₂ (λ (x y : ℕ). f .num * y ≡ x * f .den) (sym (one-mul (p * N))) (sym (one-mul (q * D)))
+      (subst₂ (λ (x y : ℕ). f .num * (y * D) ≡ x * N * f .den) (pow-one p) (pow-one q) (nested p q 1 21)) in
+      twice-held 1 (2 ^ 62) (partOf p q) (partOf p q + 3) f (carry (2 ^ 63) f 1 1 (partOf p q) (partOf p q + 3) (p * N) (q * D) (mul-pos hq (bottom-pos (q * q) 1 21 (mul-pos hq hq) (lit≤ tt))) e part-low part-high)
 
   pub part-le : partOf p q ≤ 2 ^ 61
-  unfolding partOf h t
+  unfolding partOf h w t
   part-le = div-le-of-le-mul (2 ^ 64) (five t h (2 ^ 64) (2 ^ 60) (mul-le-mul t-le (odds-le w 1 21 w-le)))
     where
       five : (t h C U : ℕ) → 5 * t * h ≤ C * (9 * U) → t * h ≤ C * (2 * U)

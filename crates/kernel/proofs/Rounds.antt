@@ -3,7 +3,7 @@ use mathlib.Core.Path.{_≡_, refl, sym, ap, _∙_, subst}
 use mathlib.Core.Logic.{_⊎_, inl, inr}
 use mathlib.Core.Bool.{Bool, true, false, not, _&&_, _||_}
 use Prim.Native.Nat.{ℕ, _+_, _-_, _*_, _^_, _≤_, _<_, zero-le}
-use native.Mathlib.Nat.{mul-add, add-mul, mul-assoc, mul-comm, mul-left-comm, zero-mul, mul-zero, mul-pos, mul-le-mul-right, mul-le-mul-left, le-trans, le-of-eq, le-of-mul-le-mul-right, le-of-mul-le-mul-left, lt-of-le-of-lt, le-of-lt}
+use native.Mathlib.Nat.{one-mul, eq-zero-or-pos, mul-add, add-mul, mul-assoc, mul-comm, mul-left-comm, zero-mul, mul-zero, mul-pos, mul-le-mul-right, mul-le-mul-left, le-trans, le-of-eq, le-of-mul-le-mul-right, le-of-mul-le-mul-left, lt-of-le-of-lt, le-of-lt}
 use native.Mathlib.Omega.{arith}
 use lib.IntN.{ℤ, pos}
 use lib.Dec.{T, leb, ltb, eqb, leb→le, nleb→lt, ltb→lt, nltb→le, eqb→eq, lit<}
@@ -14,7 +14,7 @@ use lib.Ieee.Order.{round-mono}
 use lib.Ieee.Scale.{grid, normal-of-fraction}
 use Rattle.laws.specs.Exact.{round-neg}
 use Rattle.laws.specs.Rounding.{Near, grid-near, round-value}
-use Rattle.kernel.specs.Fractions.{Fraction, Difference, _over_, signed, Within}
+use Rattle.kernel.specs.Fractions.{Fraction, Difference, _over_, AtMost, signed, Within}
 use Rattle.kernel.specs.Series.{Close}
 use Rattle.kernel.specs.Alternating.{apart}
 use Rattle.kernel.proofs.Held.{Held, close}
@@ -22,7 +22,7 @@ use Rattle.kernel.proofs.Held.{Held, close}
 ruleset sorted = (mul-add, add-mul, mul-assoc, mul-comm, mul-left-comm)
 
 -- r is finite, with the sign s, and its size is as Q says
-abbrev pub Shows : (Fraction → Type 0) → Bool → Float → Type 0
+abbrev Shows : (Fraction → Type 0) → Bool → Float → Type 0
 Shows Q s nan = ⊥
 Shows Q s (inf t) = ⊥
 Shows Q s (fin t n g) = (t ≡ s) × Q (n * up g over down g)
@@ -101,7 +101,7 @@ module _ (s : Bool) (u w K gap d : ℕ) (W : 0 < w * K) where
   from-near (fin t n g) G v h k = (v .0, near-held u w K gap d (n * up g) (down g) G (2 ^ 53) (2 ^ 1074) (pow-pos 53) (pow-pos 1074) (v .1) h k)
 
   -- the value is at most 2^11, and in the normal range or held exactly
-  pub shown : gap ≤ 2 ^ 53 * d → u * gap ≤ 2 ^ 11 * (w * K) → (2 ^ 52 * (w * K) ≤ u * gap * 2 ^ 1074) ⊎ HasValue (round binary64 s (u * gap) (w * K)) s (u * gap) (w * K)
+  shown : gap ≤ 2 ^ 53 * d → u * gap ≤ 2 ^ 11 * (w * K) → (2 ^ 52 * (w * K) ≤ u * gap * 2 ^ 1074) ⊎ HasValue (round binary64 s (u * gap) (w * K)) s (u * gap) (w * K)
       → Shows (Held u (w * K) (gap - d) (gap + d)) s (round binary64 s (u * gap) (w * K))
   shown h l (inr v) = from-exact (round binary64 s (u * gap) (w * K)) v
   shown h l (inl k) =
@@ -112,7 +112,7 @@ module _ (s : Bool) (u w K gap d : ℕ) (W : 0 < w * K) where
       from-near (round binary64 s A C) (grid binary64 A C) (round-value binary64 s A C (lt-of-le-of-lt f (lit< tt))) h n
 
 -- nothing is held exactly
-pub zero-exact : (s : Bool) (u c : ℕ) → 0 < c → HasValue (round binary64 s (u * 0) c) s (u * 0) c
+zero-exact : (s : Bool) (u c : ℕ) → 0 < c → HasValue (round binary64 s (u * 0) c) s (u * 0) c
 zero-exact s u c C = round-exact binary64 s (u * 0) c 0 0 C (lit< tt) (lit< tt) (none u (2 ^ 1074))
   where
     none : (u L : ℕ) → u * 0 * L ≡ 0 * 2 ^ 0 * c
@@ -137,7 +137,7 @@ module _ (a c : ℕ) (C : 0 < c) (h : a * 2 ^ 53 ≤ (2 ^ 53 + 1) * c) where
       go false false f k t = absurd t
 
   -- of either sign
-  pub size-le : (s : Bool) (Q : Fraction → Type 0) → Shows Q s (round binary64 s a c) → (t : Bool) (n : ℕ) (g : ℤ) → round binary64 s a c ≡ fin t n g → n * up g * 1 ≤ 1 * down g
+  size-le : (s : Bool) (Q : Fraction → Type 0) → Shows Q s (round binary64 s a c) → (t : Bool) (n : ℕ) (g : ℤ) → round binary64 s a c ≡ fin t n g → n * up g * 1 ≤ 1 * down g
   unfolding neg
   size-le false Q k t n g e =
       le-one n g (subst (λ (b : Bool). T (le (fin b n g) (fin false 1 (pos 0)))) (subst (Shows Q false) e k .0) (subst (λ (r : Float). T (le r (fin false 1 (pos 0)))) e below))
@@ -156,7 +156,7 @@ module _ (a c : ℕ) (C : 0 < c) (h : a * 2 ^ 53 ≤ (2 ^ 53 + 1) * c) where
       back (fin s m e) = ap (λ (b : Bool). fin b m e) (twice s)
 
 -- a value not below 2^-112 or so is in the normal range
-pub normal : (u w gap H K C L : ℕ) → w ≤ u * C → H * K * C ≤ L → 0 < gap → H * (w * K) ≤ u * gap * L
+normal : (u w gap H K C L : ℕ) → w ≤ u * C → H * K * C ≤ L → 0 < gap → H * (w * K) ≤ u * gap * L
 normal u w gap H K C L h k g =
     let a : H * K * w ≤ H * K * (u * C) = mul-le-mul-left (H * K) h in
     let b : u * (H * K * C) ≤ u * L = mul-le-mul-left u k in
@@ -170,16 +170,45 @@ twice true false = refl
 twice false true = refl
 twice false false = refl
 
-pub plain : (b : Bool) → b ≡ unlike false b
-plain true = refl
-plain false = refl
+-- A and B hold what the sum adds and what it takes away, and `value` is u / w times their difference, rounded once, with its sign turned where s is set
+module _ (s : Bool) (u w K A B I J d : ℕ) (W : 0 < w * K) (sum : Difference) (a : Held u (w * K) A (A + I) (sum .added)) (b : Held u (w * K) B (B + J) (sum .taken))
+    (size : apart A B ≤ 2 ^ 53 * d) (most : u * apart A B ≤ 2 ^ 11 * (w * K)) where
+  abbrev value : Float
+  value = round binary64 (unlike s (ltb A B)) (u * apart A B) (w * K)
 
--- r shows |A - B| to d units, with the sign of A - B turned where s is set
-module _ (u w A B I J d k : ℕ) (W : 0 < w) (e : Fraction) (sum : Difference) (a : Held u w A (A + I) (sum .added)) (b : Held u w B (B + J) (sum .taken)) (E : Held u w k k e) (i : I + d ≤ k) (j : J + d ≤ k) where
-  pub closes : (s : Bool) (r : Float) → Shows (Held u w (apart A B - d) (apart A B + d)) (unlike s (ltb A B)) r → Close e sum s r
-  unfolding Close
-  closes s nan h = absurd h
-  closes s (inf t) h = absurd h
-  closes s (fin t n g) h =
-      subst (λ (b : Bool). Within e sum (signed b (n * up g over down g))) (sym (ap (unlike s) (h .0) ∙ twice s (ltb A B)))
-      (close u w A B I J d k W e sum (n * up g over down g) E a b (h .1) i j (ltb A B) (ltb→lt A B) (nltb→le A B))
+  -- in the normal range, or exact
+  abbrev Ranges : Type 0
+  Ranges = (2 ^ 52 * (w * K) ≤ u * apart A B * 2 ^ 1074) ⊎ HasValue value (unlike s (ltb A B)) (u * apart A B) (w * K)
+
+  pub in-range : (C : ℕ) → w ≤ u * C → 2 ^ 52 * K * C ≤ 2 ^ 1074 → Ranges
+  in-range C h k = go (eq-zero-or-pos (apart A B))
+    where
+      go : (apart A B ≡ 0) ⊎ (0 < apart A B) → Ranges
+      go (inr z) = inl (normal u w (apart A B) (2 ^ 52) K C (2 ^ 1074) h k z)
+      go (inl z) = inr (subst (λ (g : ℕ). HasValue (round binary64 (unlike s (ltb A B)) (u * g) (w * K)) (unlike s (ltb A B)) (u * g) (w * K)) (sym z) (zero-exact (unlike s (ltb A B)) u (w * K) W))
+
+  module _ (range : Ranges) where
+    shows : Shows (Held u (w * K) (apart A B - d) (apart A B + d)) (unlike s (ltb A B)) value
+    shows = shown (unlike s (ltb A B)) u w K (apart A B) d W size most range
+
+    pub closes : (k : ℕ) (e : Fraction) → Held u (w * K) k k e → I + d ≤ k → J + d ≤ k → Close e sum s value
+    closes k e E i j = go value shows
+      where
+        go : (r : Float) → Shows (Held u (w * K) (apart A B - d) (apart A B + d)) (unlike s (ltb A B)) r → Close e sum s r
+        go nan h = absurd h
+        go (inf t) h = absurd h
+        go (fin t n g) h =
+            unfold Close in
+            subst (λ (b : Bool). Within e sum (signed b (n * up g over down g))) (sym (ap (unlike s) (h .0) ∙ twice s (ltb A B)))
+            (close u (w * K) A B I J d k W e sum (n * up g over down g) E a b (h .1) i j (ltb A B) (ltb→lt A B) (nltb→le A B))
+
+    pub stays : u * apart A B * 2 ^ 53 ≤ (2 ^ 53 + 1) * (w * K) → (t : Bool) (n : ℕ) (g : ℤ) → value ≡ fin t n g → AtMost (n * up g over down g) (1 over 1)
+    stays h = size-le (u * apart A B) (w * K) W h (unlike s (ltb A B)) (Held u (w * K) (apart A B - d) (apart A B + d)) shows
+
+-- where u / w is 1 and no sign is turned
+pub plainly : (K A B : ℕ) → round binary64 (unlike false (ltb A B)) (1 * apart A B) (1 * K) ≡ round binary64 (ltb A B) (apart A B) K
+plainly K A B = (λ i. round binary64 (plain (ltb A B) i) (one-mul (apart A B) i) (one-mul K i))
+  where
+    plain : (b : Bool) → unlike false b ≡ b
+    plain true = refl
+    plain false = refl

@@ -1,10 +1,10 @@
 -- The Taylor sum is its first term times a nested sum: x^n / n! (1 - t / d (1 - t / d' (..))) with t = x². Assumes nothing.
 use mathlib.Core.Path.{_≡_, sym, ap, ap₂, _∙_}
 use Prim.Native.Nat.{ℕ, zero, suc, _+_, _*_, _^_, _<_}
-use native.Mathlib.Nat.{mul-add, add-mul, mul-assoc, mul-comm, mul-left-comm, pow-suc, mul-pos, zero-lt-suc}
+use native.Mathlib.Nat.{mul-add, add-mul, mul-assoc, mul-comm, mul-left-comm, pow-suc, pow-zero, one-mul, mul-pos, zero-lt-suc}
 use native.Mathlib.Numerals.{add-one, add-two}
 use native.Mathlib.Omega.{arith}
-use Rattle.kernel.specs.Fractions.{Fraction}
+use Rattle.kernel.proofs.Held.{Is}
 use Rattle.kernel.specs.Series.{factorial, taylor}
 
 ruleset sorted = (mul-add, add-mul, mul-assoc, mul-comm, mul-left-comm)
@@ -34,9 +34,8 @@ whole-pos b n (suc k) h = mul-pos (mul-pos (mul-pos (up n 0) (up n 1)) h) (whole
     up : (n i : ℕ) → 0 < n + (i + 1)
     up n i = omega arith
 
--- x is N / D
-abbrev pub Is : Fraction → ℕ → ℕ → Type 0
-Is x N D = x .num * D ≡ N * x .den
+pub pow-one : (x : ℕ) → x ^ 1 ≡ x
+pow-one x = pow-suc x 0 ∙ ap (λ (z : ℕ). z * x) (pow-zero x) ∙ one-mul x
 
 pub pow-two-more : (x n : ℕ) → x ^ (n + 2) ≡ x ^ n * (x * x)
 pow-two-more x n = ap (λ (k : ℕ). x ^ k) (add-two n) ∙ simp (pow-suc, mul-assoc, mul-comm, mul-left-comm)

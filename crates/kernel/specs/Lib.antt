@@ -1,4 +1,4 @@
--- What 01 asks (Fractions, Series), the steps (Alternating, Sine, Cosine, Logarithm), then laws that make both believable (Positive, Split, Symmetry).
+-- What 01 asks (Fractions, Series), the steps (Alternating, Sine, Cosine, Logarithm), then laws that make both believable (Positive, Split, Answered, Symmetry).
 pub mod Fractions
 pub mod Series
 pub mod Alternating
@@ -7,4 +7,5 @@ pub mod Cosine
 pub mod Logarithm
 pub mod Positive
 pub mod Split
+pub mod Answered
 pub mod Symmetry

@@ -1,7 +1,7 @@
 -- Arithmetic of f64 as it is written in the source: each sign is one operation of IEEE 754, rounded once (lib.Ieee). Definitions only.
 use Prim.Native.Nat.{ℕ, _^_}
 use mathlib.Core.Bool.{Bool, false}
-use lib.Ieee.{Float, binary64, add, sub, mul, div, rem, lt, le, eq, ne, neg, ofBits, round}
+use lib.Ieee.{Float, binary64, add, sub, mul, div, rem, lt, le, eq, ne, ofBits, round}
 
 infixl 65 _⊕_ _⊖_
 infixl 70 _⊗_ _⊘_ _%%_

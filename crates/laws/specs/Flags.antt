@@ -1,9 +1,9 @@
--- The flag `ltb 0 n`: whether anything of n is left. Assumes nothing.
-use mathlib.Core.Path.{_≡_, refl, sym, ap, _∙_, subst}
-use mathlib.Core.Bool.{Bool, true, false, not, _||_, _&&_}
+-- Tests as facts, and the flag `ltb 0 n`: whether anything of n is left. Assumes nothing.
+use mathlib.Core.Path.{_≡_, refl, sym, _∙_, subst}
+use mathlib.Core.Bool.{Bool, true, false, not, _&&_, _||_, false≢true}
 use mathlib.Core.Logic.{_⊎_, inl, inr}
-use Prim.Native.Nat.{ℕ, zero, suc, _+_, _-_, _*_, _≤_, _<_}
-use native.Mathlib.Nat.{le-trans, le-of-eq, lt-of-lt-of-le, mul-pos, zero-add}
+use Prim.Native.Nat.{ℕ, _+_, _-_, _*_, _≤_, _<_}
+use native.Mathlib.Nat.{le-of-eq, mul-pos}
 use native.Mathlib.Omega.{arith}
 use lib.Arith.{le→nltb}
 use lib.Dec.{T, ltb, ltb→lt, lt→ltb, nltb→le}
@@ -14,6 +14,10 @@ holds e = subst T (sym e) tt
 
 pub fails : {b : Bool} → b ≡ false → T (not b)
 fails e = subst (λ (b : Bool). T (not b)) (sym e) tt
+
+pub both-true : (a b : Bool) → (a && b) ≡ true → (a ≡ true) × (b ≡ true)
+both-true true b e = (refl, e)
+both-true false b e = absurd (false≢true e)
 
 -- either of two numbers is the smaller, or they are equal
 pub lt-or-le : (a b : ℕ) → (a < b) ⊎ (b ≤ a)

@@ -1,15 +1,15 @@
 -- `sum` of lib.Ieee, the rounded sum of two signed fractions: its terms exchanged, a term that is zero, another denominator. Assumes nothing.
-use mathlib.Core.Path.{_≡_, refl, sym, ap, _∙_, subst}
+use mathlib.Core.Path.{_≡_, refl, sym, ap, _∙_}
 use mathlib.Core.Bool.{Bool, true, false, not, _&&_, cond, Bool·beq}
 use Prim.Native.Nat.{ℕ, _+_, _-_, _*_, _≤_, _<_}
-use native.Mathlib.Nat.{le-of-eq, le-of-lt, lt-of-le-of-lt, lt-of-lt-of-le, add-comm, add-zero, sub-zero, mul-comm, mul-lt-mul-of-pos-right, lt-of-mul-lt-mul-right, add-mul, mul-sub}
+use native.Mathlib.Nat.{le-of-eq, lt-of-le-of-lt, lt-of-lt-of-le, add-comm, mul-comm, mul-lt-mul-of-pos-right, lt-of-mul-lt-mul-right, add-mul, mul-sub}
 use native.Mathlib.Omega.{arith}
 use lib.Arith.{le→nltb}
 use lib.Dec.{T, ltb, ltb→lt, lt→ltb, nltb→le}
-use lib.Ieee.{Float, Format, round, sum}
+use lib.Ieee.{Format, round, sum}
 use lib.Ieee.Bits.{is-true, is-false}
 use lib.Ieee.Scale.{round-same}
-use Rattle.laws.specs.Flags.{signed, some-diff}
+use Rattle.laws.specs.Flags.{some-diff}
 
 -- ---- one sign, or two
 pub sum-like : (f : Format) (s t : Bool) (a b c : ℕ) → Bool·beq s t ≡ true → round f s (a + b) c ≡ sum f s a t b c
@@ -23,6 +23,12 @@ sum-unlike f s t a b c e h =
     ∙ (λ i. cond (sym e i) (round f s (a + b) c) (cond (sym (is-false (ltb a b) (le→nltb a b h)) i) (round f t (b - a) c) (round f (s && ltb b a) (a - b) c)))
 
 -- ---- its terms exchanged
+pub differ-comm : (s t : Bool) → Bool·beq s t ≡ false → Bool·beq t s ≡ false
+differ-comm true true e = e
+differ-comm true false e = e
+differ-comm false true e = e
+differ-comm false false e = e
+
 swap : (f : Format) (a b c : ℕ) → cond (ltb a b) (round f false (b - a) c) (round f (ltb b a) (a - b) c) ≡ cond (ltb b a) (round f true (a - b) c) (round f false (b - a) c)
 swap f a b c = go (ltb a b) (ltb b a) (ltb→lt a b) (ltb→lt b a) (nltb→le a b) (nltb→le b a)
   where

@@ -14,9 +14,11 @@ use Rattle.sheet.specs.Sheet.{Row, entries, sizeFor, mostRows, rowPlace,
 
 -- ---- what stands in bytes that may be a sheet
 
+-- how many rows bytes of this length would have
 unfoldable pub rowsIn : List ℕ → ℕ
 rowsIn s = (length s - 328) / 48
 
+-- row i, the five counts, the total, where such a sheet has them
 unfoldable pub rowIn : List ℕ → ℕ → Row
 rowIn s i = take 48 (drop (rowPlace i) s)
 
@@ -26,6 +28,7 @@ countsIn s = read 4 5 (drop (rowPlace (rowsIn s)) s)
 unfoldable pub totalIn : List ℕ → ℕ
 totalIn s = number (take 272 (drop (rowPlace (rowsIn s) + 24) s))
 
+-- the same numbers
 unfoldable pub equal : List ℕ → List ℕ → Bool
 equal [] [] = true
 equal [] (y ∷ ys) = false
@@ -38,6 +41,7 @@ equal (x ∷ xs) (y ∷ ys) = eqb x y && equal xs ys
 unfoldable pub isSheet : List ℕ → Bool
 isSheet s = eqb (length s) (sizeFor (rowsIn s)) && (leb (rowsIn s) mostRows && equal (read 4 8 s) (entries (rowsIn s)))
 
+-- added up
 unfoldable pub plus : List ℕ → ℕ
 plus [] = 0
 plus (x ∷ xs) = x + plus xs
@@ -46,17 +50,20 @@ plus (x ∷ xs) = x + plus xs
 unfoldable pub damaged : List ℕ → ℕ → Bool
 damaged s i = not (sound (rowIn s i)) || (not (eqb (plus (countsIn s)) (rowsIn s)) || eqb (getD (countsIn s) (classOf (rowIn s i)) 0) 0)
 
+-- "The total: 7."
 unfoldable pub totalRefusal : List ℕ → ℕ
 totalRefusal s =
     when not (isSheet s) gives 7 else
     0
 
+-- "A row read: 7, 8."
 unfoldable pub rowRefusal : List ℕ → ℕ → ℕ
 rowRefusal s i =
     when not (isSheet s) gives 7 else
     when leb (rowsIn s) i gives 8 else
     0
 
+-- "Order for an edit: 7, 8, 9, 10."
 unfoldable pub editRefusal : List ℕ → ℕ → ℕ → ℕ
 editRefusal s i f =
     when not (isSheet s) gives 7 else
@@ -65,6 +72,7 @@ editRefusal s i f =
     when damaged s i gives 10 else
     0
 
+-- "make blank (11, then 7 for the length)"
 unfoldable pub blankRefusal : List ℕ → ℕ → ℕ
 blankRefusal s r =
     when ltb mostRows r gives 11 else
@@ -73,6 +81,7 @@ blankRefusal s r =
 
 -- ---- the calls
 
+-- a sheet of blank rows; a refused call changes no byte
 unfoldable pub blankOf : List ℕ → ℕ → List ℕ
 blankOf s r = when eqb (blankRefusal s r) 0 gives encode (replicate r blankRow) else s
 
@@ -87,6 +96,7 @@ edited s i w =
     splice (splice s (rowPlace i) w) (rowPlace (rowsIn s))
     (totals (recount (countsIn s) (classOf old) (classOf w)) (addOf (takeOf (totalIn s) (valueOf old)) (valueOf w)))
 
+-- the row that the edit stores; a refused edit changes no byte
 unfoldable pub editOf : List ℕ → ℕ → ℕ → ℕ → ℕ → ℕ → List ℕ
 editOf s i f a b c = when eqb (editRefusal s i f) 0 gives edited s i (rowOf f a b c) else s
 

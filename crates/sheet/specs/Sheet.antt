@@ -14,6 +14,7 @@ use Rattle.sheet.specs.Bytes.{bytes, number, fields}
 
 -- ---- contents: two entries of four u32, for the rows and for the totals
 
+-- kind, place, length, how many
 unfoldable pub entries : ℕ → List ℕ
 entries r = 1 ∷ 32 ∷ 48 * r ∷ r ∷ 2 ∷ (32 + 48 * r) ∷ 296 ∷ 1 ∷ []
 
@@ -30,15 +31,19 @@ rowPlace i = 32 + 48 * i
 
 -- ---- a row: function, refusal number, six zeros; then three arguments and two answers, as bit patterns
 
+-- its 48 bytes
 abbrev pub Row : Type 0
 Row = List ℕ
 
+-- function f, refusal q, and the five patterns xs
 unfoldable pub rowBytes : ℕ → ℕ → List ℕ → Row
 rowBytes f q xs = (f ∷ q ∷ replicate 6 0) ++ fields 8 xs
 
+-- a row of function 0
 abbrev pub blankRow : Row
 blankRow = replicate 48 0
 
+-- what a row's bytes say: its function, refusal number and first answer
 unfoldable pub functionIn : Row → ℕ
 functionIn w = getD w 0 0
 
@@ -48,15 +53,17 @@ refusalIn w = getD w 1 0
 unfoldable pub firstIn : Row → Float
 firstIn w = float (number (take 8 (drop 32 w)))
 
--- the row that an edit stores: blank for function 0, else the function at the arguments that it reads, zero in place of the others
+-- argument k, where the function reads so many; zero in place of one that it does not
 unfoldable pub keep : ℕ → ℕ → ℕ → ℕ
 keep f k x = cond (ltb k (usedOf f)) x 0
 
+-- a function worked out at its arguments, as a row
 unfoldable pub answered : ℕ → ℕ → ℕ → ℕ → Row
 answered f a b c =
     let z = evaluateOf f a b c in
     rowBytes f (refusalOf z) (a ∷ b ∷ c ∷ toBits binary64 (firstOf z) ∷ toBits binary64 (secondOf z) ∷ [])
 
+-- the row that an edit stores
 unfoldable pub rowOf : ℕ → ℕ → ℕ → ℕ → Row
 rowOf f a b c =
     when eqb f 0 gives blankRow else
@@ -83,11 +90,13 @@ refused = 4
 abbrev pub none : ℕ
 none = 5
 
+-- the class that a first answer decides
 unfoldable pub kindOf : Float → ℕ
 kindOf nan = none
 kindOf (inf s) = cond s minus∞ plus∞
 kindOf (fin s m e) = finite
 
+-- "A row of function 0 is blank, else one with a non-zero refusal is refused, else the first answer decides."
 unfoldable pub classOf : Row → ℕ
 classOf w =
     when eqb (functionIn w) 0 gives blank else
@@ -112,6 +121,7 @@ unfoldable pub count : ℕ → List Row → ℕ
 count k [] = 0
 count k (w ∷ ws) = cond (eqb k (classOf w)) 1 0 + count k ws
 
+-- blank, finite, +∞, -∞, refused, recounted from the rows
 abbrev pub counts : List Row → List ℕ
 counts ws = count blank ws ∷ count finite ws ∷ count plus∞ ws ∷ count minus∞ ws ∷ count refused ws ∷ []
 
@@ -122,9 +132,11 @@ sum (w ∷ ws) = unitsOf (valueOf w) + sum ws
 
 -- ---- the sheet of these rows
 
+-- rows one after the other
 unfoldable pub flat : List Row → List ℕ
 flat [] = []
 flat (w ∷ ws) = w ++ flat ws
 
+-- contents, rows, totals
 unfoldable pub encode : List Row → List ℕ
 encode ws = fields 4 (entries (length ws)) ++ (flat ws ++ totals (counts ws) (sum ws % N))

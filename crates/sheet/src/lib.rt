@@ -27,7 +27,7 @@ mod checks;
 mod row;
 mod totals;
 
-// The last function number.
+// The last function number: `last` of the functions' definitions, which the contracts cite.
 const LAST: u8 = 5;
 
 // A blank sheet of so many rows: 11 more than 1,024, 7 another length, 0 made.

@@ -1,10 +1,10 @@
 -- `from_pattern` meets its contract: without its sign a NaN's pattern is above the infinity's.
-use mathlib.Core.Path.{_≡_, sym, ap, _∙_}
-use mathlib.Core.Bool.{Bool, true, false, false≢true}
-use Prim.Native.Nat.{ℕ, _%_, _^_, _<_, _≤_}
+use mathlib.Core.Path.{_≡_, sym, _∙_}
+use mathlib.Core.Bool.{true, false≢true}
+use Prim.Native.Nat.{ℕ, _%_, _^_, _<_}
 use lib.Arith.{le→nltb}
 use lib.Dec.{ltb, lt→ltb}
-use lib.Ieee.{Float, nan, inf, fin, binary64, isNan, nanBits, ofBits, div}
+use lib.Ieee.{Float, nan, inf, fin, binary64, isNan, ofBits, div}
 use lib.Ieee.Bits.{nanBits-is, nanBits-above, is-true, is-false}
 use borrow.Author.Needs.{needs}
 use Rattle.laws.specs.Flags.{fails}

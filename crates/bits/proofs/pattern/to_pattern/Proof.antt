@@ -1,5 +1,5 @@
 -- `to_pattern` meets its contract.
-use mathlib.Core.Path.{_≡_, sym, ap}
+use mathlib.Core.Path.{sym, ap}
 use lib.Ieee.{binary64, toBits}
 use borrow.Author.Needs.{needs}
 use Rattle.laws.specs.Kinds.{nan-of, not-nan}

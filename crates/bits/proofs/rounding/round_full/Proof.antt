@@ -17,13 +17,12 @@ side w d more = ordOf (w / 2 ^ (d - 1) % 2) (more || ltb 0 (w % 2 ^ (d - 1)))
 abbrev kept : ℕ → ℕ → Bool → ℕ
 kept w d more = nearest (w / 2 ^ (d - 1) / 2) (side w d more)
 
-q-is : (c : tie.After-nearest-half) → c .nearest-half .result ≡ kept (c .before .before .before .before .before .args .w) (c .before .before .before .before .dropped .result) (c .before .before .before .before .before .args .more)
+q-is : (c : tie.After-nearest-half) → let d = c .before .before .before .before in c .nearest-half .result ≡ kept (d .before .args .w) (d .dropped .result) (d .before .args .more)
 q-is c =
-    let some = c .before in
-    let cut = some .before in
+    let cut = c .before .before in
     let high = cut .split .ensures .0 in
     let more = cut .before .before .before .args .more in
-    c .nearest-half .ensures ∙ (λ i. nearest (high i / 2) (ordOf (high i % 2) ((some .or-some .ensures ∙ ap (λ (x : ℕ). more || ltb 0 x) (cut .split .ensures .1)) i)))
+    c .nearest-half .ensures ∙ (λ i. nearest (high i / 2) (ordOf (high i % 2) (more || ltb 0 (cut .split .ensures .1 i))))
 
 dropped-requires : tie.Need-dropped-requires
 dropped-requires c κs = search needs
@@ -43,9 +42,6 @@ sub-split c = search needs
 
 split-requires : tie.Need-split-requires
 split-requires c κs = search needs
-
-or-some-requires : tie.Need-or-some-requires
-or-some-requires c κs = search needs
 
 nearest-half-requires : tie.Need-nearest-half-requires
 nearest-half-requires c κs = search needs
@@ -73,4 +69,4 @@ returns-2 c =
     ∙ full-is (a .negative) n (a .w) (a .e) (d .dropped .result) (a .more) k (s .pre .0) (s .fits .w .fits) (d .dropped .ensures)
 
 pub round-full-spec : {M : Type 1} → statement M
-round-full-spec = tie.close (tie.spec dropped-requires packed-requires returns sub-split split-requires or-some-requires nearest-half-requires add-packed sub-packed packed-requires-2 returns-2)
+round-full-spec = tie.close (tie.spec dropped-requires packed-requires returns sub-split split-requires nearest-half-requires add-packed sub-packed packed-requires-2 returns-2)

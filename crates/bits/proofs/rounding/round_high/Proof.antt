@@ -15,25 +15,22 @@ zeros c = zeros-lt (c .args .high) (c .pre .0) (c .fits .high .fits)
 cast-z : tie.Need-cast-z
 cast-z c = omega (arith, zeros c)
 
-or-some-requires : tie.Need-or-some-requires
-or-some-requires c κs = search needs
-
 add-round-full : tie.Need-add-round-full
 add-round-full c = search needs
 
 round-full-requires : tie.Need-round-full-requires
 round-full-requires c κs =
-    let s = c .before .before in
-    (no-zeros (s .args .high) (s .pre .0) (s .fits .high .fits) (c .before .if1 .taken), small (s .args .e) (s .pre .1))
+    let s = c .before in
+    (no-zeros (s .args .high) (s .pre .0) (s .fits .high .fits) (c .if1 .taken), small (s .args .e) (s .pre .1))
   where
     small : (e : ℕ) → e < 2 ^ 31 → e + 64 < 2 ^ 32
     small e h = omega arith
 
 returns : tie.Need-returns
 returns c =
-    let s = c .before .before .before in
+    let s = c .before .before in
     let a = s .args in
-    λ n k. c .round-full .ensures n (kept-top n (a .high) (a .low) (a .e) (a .more) (c .before .or-some .result) (s .fits .low .fits) (c .before .or-some .ensures) k)
+    λ n k. c .round-full .ensures n (kept-top n (a .high) (a .low) (a .e) (a .more) (s .fits .low .fits) k)
 
 sub-split : tie.Need-sub-split
 sub-split c = omega (arith, zeros (c .before))
@@ -56,9 +53,6 @@ leads c =
 add-round-full-2 : tie.Need-add-round-full-2
 add-round-full-2 c = record { fits = leads (c .before) .0 }
 
-or-some-requires-2 : tie.Need-or-some-requires-2
-or-some-requires-2 c κs = search needs
-
 sub-round-full : tie.Need-sub-round-full
 sub-round-full c = omega (arith, zeros (c .before .before .before .before))
 
@@ -73,14 +67,13 @@ round-full-requires-2 c κs = let k = c .before .before in let s = k .before .be
 
 returns-2 : tie.Need-returns-2
 returns-2 c =
-    let o = c .before in
-    let k = o .before .before in
+    let k = c .before .before .before in
     let s = k .before .before in
     let a = s .args in
     λ n h.
     c .round-full2 .ensures n
-    (kept-lead (a .high) (a .low) (leadingZeros 64 (a .high)) (s .pre .0) (s .fits .high .fits) (s .fits .low .fits) refl n (a .e) (k .split .result .high) (k .split .result .low) (a .more) (o .or-some2 .result)
-    (k .split .ensures .0) (k .split .ensures .1) (o .or-some2 .ensures) h)
+    (kept-lead (a .high) (a .low) (leadingZeros 64 (a .high)) (s .pre .0) (s .fits .high .fits) (s .fits .low .fits) refl n (a .e) (k .split .result .high) (k .split .result .low) (a .more)
+    (k .split .ensures .0) (k .split .ensures .1) h)
 
 pub round-high-spec : {M : Type 1} → statement M
-round-high-spec = tie.close (tie.spec cast-z or-some-requires add-round-full round-full-requires returns sub-split split-requires shl-round-full add-round-full-2 or-some-requires-2 sub-round-full add-round-full-3 round-full-requires-2 returns-2)
+round-high-spec = tie.close (tie.spec cast-z add-round-full round-full-requires returns sub-split split-requires shl-round-full add-round-full-2 sub-round-full add-round-full-3 round-full-requires-2 returns-2)

@@ -1,6 +1,6 @@
 -- `split` meets its contract.
 use mathlib.Core.Path.{refl, sym, ap, subst}
-use Prim.Native.Nat.{ℕ, _%_, _^_, _<_}
+use Prim.Native.Nat.{ℕ, _%_, _<_}
 use lib.Pow.{pow-pos}
 use borrow.Author.Needs.{needs}
 use Rattle.laws.specs.Digits.{one-shl}

@@ -1,28 +1,19 @@
 -- `fused` meets its contract: the finite case by its parts, the others as they are (`Values`).
 use mathlib.Core.Path.{_≡_, sym, _∙_}
-use mathlib.Core.Bool.{Bool, true, false, _&&_}
+use mathlib.Core.Bool.{true, _&&_}
 use borrow.Author.Needs.{needs}
-use lib.Dec.{T}
-use lib.Ieee.Bits.{is-true}
-use lib.Ieee.Fits.{and-l, and-r}
 use lib.Ieee.Scale.{finite}
-use Rattle.laws.specs.Flags.{holds}
+use Rattle.laws.specs.Flags.{both-true}
 use Rattle.bits.specs.Parts.{Decoded}
 use Rattle.floor.proofs.Values.{fused-finite, fused-addend, fused-factor}
 use Rattle.floor.proofs.fusing.fused.Statement.{statement}
 use Rattle.floor.proofs.fusing.fused.Tie as tie
 
-first : (a b : Bool) → (a && b) ≡ true → a ≡ true
-first a b e = is-true a (and-l a b (holds e))
-
-second : (a b : Bool) → (a && b) ≡ true → b ≡ true
-second a b e = is-true b (and-r a b (holds e))
-
 finite-x : (c : tie.Then1) → finite (c .before .before .before .before .before .before .args .x) ≡ true
-finite-x c = let q = c .before .before .before .before in let p = q .before in sym (p .parts .ensures .kind) ∙ first (p .parts .result .finite) (q .parts2 .result .finite) (c .if1 .taken)
+finite-x c = let q = c .before .before .before .before in let p = q .before in sym (p .parts .ensures .kind) ∙ both-true (p .parts .result .finite) (q .parts2 .result .finite) (c .if1 .taken) .0
 
 finite-y : (c : tie.Then1) → finite (c .before .before .before .before .before .before .args .y) ≡ true
-finite-y c = let q = c .before .before .before .before in sym (q .parts2 .ensures .kind) ∙ second (q .before .parts .result .finite) (q .parts2 .result .finite) (c .if1 .taken)
+finite-y c = let q = c .before .before .before .before in sym (q .parts2 .ensures .kind) ∙ both-true (q .before .parts .result .finite) (q .parts2 .result .finite) (c .if1 .taken) .1
 
 decoded-x : (c : tie.Then2) → let p = c .before .before .before .before .before .before in Decoded (p .before .args .x) (p .parts .result .negative) (p .parts .result .digits) (p .parts .result .exponent)
 decoded-x c = let p = c .before .before .before .before .before .before in p .parts .ensures .decoded (finite-x (c .before))

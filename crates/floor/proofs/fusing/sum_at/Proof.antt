@@ -1,14 +1,14 @@
 -- `sum_at` meets its contract: one sign, or two and either the larger (`Sums`).
 use mathlib.Core.Path.{_≡_, sym, _∙_}
-use mathlib.Core.Bool.{Bool, true, false, _&&_, cond, Bool·beq}
-use Prim.Native.Nat.{ℕ, _+_, _-_, _*_, _^_, _≤_, _<_}
+use mathlib.Core.Bool.{true, false, _&&_, cond, Bool·beq}
+use Prim.Native.Nat.{ℕ, _+_, _*_, _^_, _≤_, _<_}
 use native.Mathlib.Nat.{le-trans, le-of-eq, le-of-lt, add-zero}
 use lib.Dec.{ltb, ltb→lt, nltb→le}
 use lib.Ieee.{Float, binary64, sum}
 use borrow.Author.Needs.{needs}
 use Rattle.laws.specs.Flags.{holds, fails}
 use Rattle.bits.specs.Rounded.{roundedOf}
-use Rattle.floor.specs.Steps.{val}
+use Rattle.floor.specs.Steps.{val, without}
 use Rattle.floor.proofs.Sums as sums
 use Rattle.floor.proofs.fusing.sum_at.Statement.{statement}
 use Rattle.floor.proofs.fusing.sum_at.Tie as tie
@@ -35,10 +35,10 @@ fits-under c = let s = c .before .before .before in let a = s .args in let p = s
 like : (c : tie.After-shifted) → let a = c .before .before .before .args in Bool·beq (a .na) (a .nb) ≡ true → roundedOf (a .na) (A c + t c) (c .shifted .result .more) (a .a .exponent) ≡ Sum c
 like c = let s = c .before .before .before in let a = s .args in let p = s .pre in let t = c .shifted .result in sums.like (a .a .high) (a .a .low) (a .a .exponent) (a .b .high) (a .b .low) (a .b .exponent) (t .high) (t .low) (t .more) (p .0) (p .1) (p .2) (c .shifted .ensures) (a .na) (a .nb)
 
-over : (c : tie.After-shifted) → let a = c .before .before .before .args in Bool·beq (a .na) (a .nb) ≡ false → t c ≤ A c → roundedOf (a .na && ltb 0 (A c - (t c + place c))) (A c - (t c + place c)) (c .shifted .result .more) (a .a .exponent) ≡ Sum c
+over : (c : tie.After-shifted) → let a = c .before .before .before .args in Bool·beq (a .na) (a .nb) ≡ false → t c ≤ A c → roundedOf (a .na && ltb 0 (without (A c) (t c) (c .shifted .result .more))) (without (A c) (t c) (c .shifted .result .more)) (c .shifted .result .more) (a .a .exponent) ≡ Sum c
 over c = let s = c .before .before .before in let a = s .args in let p = s .pre in let t = c .shifted .result in sums.unlike-over (a .a .high) (a .a .low) (a .a .exponent) (a .b .high) (a .b .low) (a .b .exponent) (t .high) (t .low) (t .more) (p .0) (p .1) (p .2) (c .shifted .ensures) (a .na) (a .nb)
 
-under : (c : tie.After-shifted) → let a = c .before .before .before .args in Bool·beq (a .na) (a .nb) ≡ false → A c < t c → roundedOf (a .nb && ltb 0 (t c - (A c + 0))) (t c - (A c + 0)) false (a .a .exponent) ≡ Sum c
+under : (c : tie.After-shifted) → let a = c .before .before .before .args in Bool·beq (a .na) (a .nb) ≡ false → A c < t c → roundedOf (a .nb && ltb 0 (without (t c) (A c) false)) (without (t c) (A c) false) false (a .a .exponent) ≡ Sum c
 under c = let s = c .before .before .before in let a = s .args in let p = s .pre in let t = c .shifted .result in sums.unlike-under (a .a .high) (a .a .low) (a .a .exponent) (a .b .high) (a .b .low) (a .b .exponent) (t .high) (t .low) (t .more) (p .0) (p .1) (p .2) (c .shifted .ensures) (a .na) (a .nb)
 
 -- ---- the needs

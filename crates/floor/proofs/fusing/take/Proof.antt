@@ -1,13 +1,13 @@
 -- `take` meets its contract: b and the place that was lost are taken away together.
 use mathlib.Core.Path.{_≡_, sym, ap, _∙_, subst}
 use mathlib.Core.Bool.{Bool, _&&_, cond}
-use Prim.Native.Nat.{ℕ, _+_, _-_, _^_, _≤_, _<_}
+use Prim.Native.Nat.{ℕ, _+_, _-_, _^_, _≤_}
 use lib.Dec.{ltb}
 use lib.Pow.{pow-pos}
 use borrow.Author.Needs.{needs}
 use Rattle.laws.specs.Flags.{some-sum}
 use Rattle.bits.specs.Rounded.{roundedOf}
-use Rattle.floor.specs.Steps.{val}
+use Rattle.floor.specs.Steps.{val, without}
 use Rattle.floor.proofs.fusing.take.Statement.{statement}
 use Rattle.floor.proofs.fusing.take.Tie as tie
 
@@ -15,7 +15,7 @@ use Rattle.floor.proofs.fusing.take.Tie as tie
 gone : (c : tie.After-plus) → let b = c .before .before .args .b in val (c .plus .result .high) (c .plus .result .low) ≡ val (b .high) (b .low) + cond (b .more) 1 0
 gone c = let l = c .before in c .plus .ensures .whole ∙ ap (λ (x : ℕ). val (l .before .args .b .high) (l .before .args .b .low) + x) (l .last-place .ensures .0)
 
-left : (c : tie.After-minus) → let s = c .before .before .before in val (c .minus .result .high) (c .minus .result .low) ≡ val (s .args .a .high) (s .args .a .low) - (val (s .args .b .high) (s .args .b .low) + cond (s .args .b .more) 1 0)
+left : (c : tie.After-minus) → let s = c .before .before .before in val (c .minus .result .high) (c .minus .result .low) ≡ without (val (s .args .a .high) (s .args .a .low)) (val (s .args .b .high) (s .args .b .low)) (s .args .b .more)
 left c = let s = c .before .before .before in c .minus .ensures .whole ∙ ap (λ (x : ℕ). val (s .args .a .high) (s .args .a .low) - x) (gone (c .before))
 
 last-place-requires : tie.Need-last-place-requires

@@ -1,6 +1,6 @@
 -- `shift_limb` meets its contract (`Shifts`).
 use mathlib.Core.Path.{sym, subst}
-use Prim.Native.Nat.{ℕ, _-_, _^_, _≤_, _<_}
+use Prim.Native.Nat.{ℕ, _-_, _≤_, _<_}
 use native.Mathlib.Omega.{arith}
 use lib.Pow.{pow-pos}
 use borrow.Author.Needs.{needs}
@@ -28,7 +28,7 @@ rem-t9 c = subst (λ (x : ℕ). 0 < x) (sym (one-shl (c .args .n - 64) (short (c
     short n a b = omega arith
 
 returns : tie.Need-returns
-returns c = shifted-limb (c .args .high) (c .args .low) (c .args .n) (c .pre .0) (c .pre .1) (c .fits .high .fits) (c .fits .low .fits)
+returns c = shifted-limb (c .args .high) (c .args .low) (c .args .n) (c .pre .0) (c .pre .1) (c .fits .low .fits)
 
 pub shift-limb-spec : {M : Type 1} → statement M
 shift-limb-spec = tie.close (tie.spec sub-t4 shr-t5 sub-t7 shl-t8 rem-t9 returns)

@@ -1,6 +1,6 @@
 -- `shift_some` meets its contract (`Shifts`).
 use mathlib.Core.Path.{sym, subst}
-use Prim.Native.Nat.{ℕ, _^_, _<_}
+use Prim.Native.Nat.{ℕ, _<_}
 use lib.Pow.{pow-pos}
 use borrow.Author.Needs.{needs}
 use Rattle.laws.specs.Digits.{one-shl}
@@ -30,7 +30,7 @@ rem-t10 : tie.Need-rem-t10
 rem-t10 c = subst (λ (x : ℕ). 0 < x) (sym (one-shl (c .args .n) (c .pre .1))) (pow-pos (c .args .n))
 
 returns : tie.Need-returns
-returns c = shifted-some (c .args .high) (c .args .low) (c .args .n) (c .pre .1) (c .fits .low .fits)
+returns c = shifted-some (c .args .high) (c .args .low) (c .args .n) (c .pre .1)
 
 pub shift-some-spec : {M : Type 1} → statement M
 shift-some-spec = tie.close (tie.spec shr-t4 sub-t5 shl-t6 shr-t7 add-t8 shl-t9 rem-t10 returns)

@@ -5,7 +5,7 @@ use Rattle.floor.proofs.limbs.shifted.Statement.{statement}
 use Rattle.floor.proofs.limbs.shifted.Tie as tie
 
 returns : tie.Need-returns
-returns c = let s = c .before in shifted-none (s .args .high) (s .args .low) (s .args .n) (c .if1 .taken) (s .fits .low .fits)
+returns c = let s = c .before in shifted-none (s .args .high) (s .args .low) (s .args .n) (c .if1 .taken)
 
 shift-some-requires : tie.Need-shift-some-requires
 shift-some-requires c κs = search needs

@@ -1,6 +1,6 @@
 -- `aligned` meets its contract (`Digits`).
 use mathlib.Core.Path.{refl}
-use Prim.Native.Nat.{ℕ, _+_, _-_, _%_, _≤_, _<_}
+use Prim.Native.Nat.{_≤_}
 use native.Mathlib.Omega.{arith}
 use lib.Count.{leadingZeros}
 use borrow.Author.Needs.{needs}

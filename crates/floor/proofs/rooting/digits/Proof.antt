@@ -1,5 +1,5 @@
 -- `digits` meets its contract: after i steps the root is that of the radicand's leading digits, i pairs of them (`Digits`).
-use mathlib.Core.Path.{_≡_, refl, sym, ap, _∙_, subst}
+use mathlib.Core.Path.{_≡_, sym, ap, _∙_, subst}
 use Prim.Native.Nat.{ℕ, _+_, _-_, _*_, _/_, _%_, _^_, _≤_, _<_}
 use native.Mathlib.Nat.{mul-one, mul-assoc, mul-div-cancel, mod-eq-of-lt, div-eq-of-lt}
 use native.Mathlib.Omega.{arith}

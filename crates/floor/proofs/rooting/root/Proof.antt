@@ -1,5 +1,5 @@
 -- `root` meets its contract: each kind of value has its own case (`Values`).
-use mathlib.Core.Path.{_≡_, sym, _∙_}
+use mathlib.Core.Path.{sym, _∙_}
 use Prim.Native.Nat.{_*_, _^_}
 use lib.Dec.{T}
 use lib.Ieee.{ofBits, div}

@@ -44,6 +44,7 @@ def module(crates, name, path, deps):
     text = text.replace('crate::', f'crate::{name}::').replace('std::num::', 'crate::num::')
     text = re.sub(r'^((?:pub(?:\(crate\))? )?(?:struct|enum) )', r'#[derive(Clone, Copy)]\n\1', text, flags=re.M)
     text = re.sub(r'^use (%s)::' % '|'.join(deps + ['-']), r'use crate::\1::', text, flags=re.M)
+    uses = ''.join(f'#[allow(unused_imports)]\nuse crate::{d};\n' for d in deps if not re.search(r'^use crate::%s;' % d, text, flags=re.M))
     folder = os.path.dirname(path)
 
     def inline(m):
@@ -51,7 +52,6 @@ def module(crates, name, path, deps):
         return f'{m.group(1) or ""}mod {m.group(2)} {{\n{inner}}}\n'
 
     text = re.sub(r'^(pub )?mod (\w+);\n', inline, text, flags=re.M)
-    uses = ''.join(f'#[allow(unused_imports)]\nuse crate::{d};\n' for d in deps if not re.search(r'^use crate::%s;' % d, text, flags=re.M))
     return uses + text
 
 

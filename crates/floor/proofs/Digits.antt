@@ -7,7 +7,7 @@ use native.Mathlib.Nat.{le-trans, le-of-eq, lt-of-le-of-lt, lt-of-lt-of-le, le-a
 use native.Mathlib.Numerals.{add-one}
 use native.Mathlib.Omega.{arith}
 use lib.Count.{leadingZeros}
-use lib.Dec.{ltb, lit<}
+use lib.Dec.{ltb, lit<, lit≤}
 use lib.Pow.{pow-add, pow-pos, pow-mono}
 use lib.Ieee.{binary64, size, nearest, units}
 use Rattle.laws.specs.Flags.{lt-or-le, some-of, none-of}
@@ -18,34 +18,38 @@ use Rattle.bits.specs.Steps.{ordOf}
 use Rattle.bits.specs.Once.{kept-round, with-half}
 use Rattle.floor.specs.Root.{wholeRoot, roundRoot}
 use Rattle.floor.specs.RootLaws.{IsRoot, square-lt, two-four, whole-root-is}
-use Rattle.floor.specs.Steps.{Root, Aligned}
+use Rattle.floor.specs.Steps.{Root, Tried, Aligned}
 
 -- ---- one step
 -- what is left of the trial has a borrow, in its highest place, where the digit is 0
-abbrev pub digitOf : ℕ → ℕ
-digitOf left = 1 - left / 2 ^ 63
+module _ (trial rest left : ℕ) (a : trial < 2 ^ 63) (b : rest < 2 ^ 63) (l : left < 2 ^ 64) (e : (left + trial) % 2 ^ 64 ≡ rest) where
+  borrows : left / 2 ^ 63 ≡ 1 → rest < trial
+  borrows h = omega arith
 
-digit-is : (trial rest left : ℕ) → trial < 2 ^ 63 → rest < 2 ^ 63 → left < 2 ^ 64 → (left + trial) % 2 ^ 64 ≡ rest → ((digitOf left ≡ 1) × (trial ≤ rest)) ⊎ ((digitOf left ≡ 0) × (rest < trial))
-digit-is trial rest left a b c e = go (lt-or-le left (2 ^ 63))
-  where
-    go : (left < 2 ^ 63) ⊎ (2 ^ 63 ≤ left) → ((digitOf left ≡ 1) × (trial ≤ rest)) ⊎ ((digitOf left ≡ 0) × (rest < trial))
-    go (inl h) = inl (omega arith, omega arith)
-    go (inr h) = inr (omega arith, omega arith)
-
-module _ (root rest pair left : ℕ) (a : root < 2 ^ 60) (b : rest ≤ 2 * root) (p : pair < 4) (l : left < 2 ^ 64) (e : (left + (4 * root + 1)) % 2 ^ 64 ≡ 4 * rest + pair) where
-  pub digit-le : digitOf left * (4 * root + 1) ≤ 4 * rest + pair
-  digit-le = go (digit-is (4 * root + 1) (4 * rest + pair) left (omega arith) (omega arith) l e)
+  no-borrow : (left / 2 ^ 63 ≡ 1 → ⊥) → (left / 2 ^ 63 ≡ 0) × (left + trial ≡ rest)
+  no-borrow h = go (lt-or-le left (2 ^ 63))
     where
-      go : ((digitOf left ≡ 1) × (4 * root + 1 ≤ 4 * rest + pair)) ⊎ ((digitOf left ≡ 0) × (4 * rest + pair < 4 * root + 1)) → digitOf left * (4 * root + 1) ≤ 4 * rest + pair
-      go (inl h) = subst (λ (d : ℕ). d * (4 * root + 1) ≤ 4 * rest + pair) (sym (h .0)) (omega (arith, h .1))
-      go (inr h) = subst (λ (d : ℕ). d * (4 * root + 1) ≤ 4 * rest + pair) (sym (h .0)) (omega arith)
+      go : (left < 2 ^ 63) ⊎ (2 ^ 63 ≤ left) → (left / 2 ^ 63 ≡ 0) × (left + trial ≡ rest)
+      go (inl s) = (omega arith, omega arith)
+      go (inr s) = absurd (h (omega arith))
 
-  pub stepped : Root (4 * (root * root + rest) + pair) (2 * root + digitOf left) (4 * rest + pair - digitOf left * (4 * root + 1))
-  stepped = go (digit-is (4 * root + 1) (4 * rest + pair) left (omega arith) (omega arith) l e)
-    where
-      go : ((digitOf left ≡ 1) × (4 * root + 1 ≤ 4 * rest + pair)) ⊎ ((digitOf left ≡ 0) × (4 * rest + pair < 4 * root + 1)) → Root (4 * (root * root + rest) + pair) (2 * root + digitOf left) (4 * rest + pair - digitOf left * (4 * root + 1))
-      go (inl h) = subst (λ (d : ℕ). Root (4 * (root * root + rest) + pair) (2 * root + d) (4 * rest + pair - d * (4 * root + 1))) (sym (h .0)) (record { sum = (omega (arith, h .1)); small = (omega (arith, h .1)) })
-      go (inr h) = subst (λ (d : ℕ). Root (4 * (root * root + rest) + pair) (2 * root + d) (4 * rest + pair - d * (4 * root + 1))) (sym (h .0)) (record { sum = (omega (arith, h .1)); small = (omega (arith, h .1)) })
+next-none : (n root trial rest pair borrow : ℕ) → trial ≡ 4 * root + 1 → Root n root rest → borrow ≡ 1 → 4 * rest + pair < trial
+    → Tried (4 * n + pair) (2 * trial + 3 - 4 * borrow) (4 * rest + pair)
+next-none n root trial rest pair borrow i f o h = record { root = 2 * root; is = omega (arith, o, i); found = record { sum = omega (arith, f .sum); small = omega arith } }
+
+next-one : (n root trial rest pair borrow left : ℕ) → trial ≡ 4 * root + 1 → Root n root rest → borrow ≡ 0 → left + trial ≡ 4 * rest + pair → pair < 4
+    → Tried (4 * n + pair) (2 * trial + 3 - 4 * borrow) left
+next-one n root trial rest pair borrow left i f o h p =
+    record { root = 2 * root + 1; is = omega (arith, o, i); found = record { sum = omega (arith, f .sum, h, i); small = omega (arith, h, i, f .small, p) } }
+
+module _ (trial rest pair left n : ℕ) (a : trial < 2 ^ 60) (b : rest < 2 ^ 60) (p : pair < 4) (l : left < 2 ^ 64) (e : (left + trial) % 2 ^ 64 ≡ 4 * rest + pair) (t : Tried n trial rest) where
+  pub digit-none : left / 2 ^ 63 ≡ 1 → Tried (4 * n + pair) (2 * trial + 3 - 4 * (left / 2 ^ 63)) (4 * rest + pair)
+  digit-none h = next-none n (t .root) trial rest pair (left / 2 ^ 63) (t .is) (t .found) h (borrows trial (4 * rest + pair) left (lt-of-lt-of-le a (lit≤ tt)) (omega (arith, b, p)) l e h)
+
+  pub digit-one : (left / 2 ^ 63 ≡ 1 → ⊥) → Tried (4 * n + pair) (2 * trial + 3 - 4 * (left / 2 ^ 63)) left
+  digit-one h =
+      let z = no-borrow trial (4 * rest + pair) left (lt-of-lt-of-le a (lit≤ tt)) (omega (arith, b, p)) l e h in
+      next-one n (t .root) trial rest pair (left / 2 ^ 63) left (t .is) (t .found) (z .0) (z .1) p
 
 -- ---- the loop: after i steps the root is that of B / 2 ^ 64, B = radicand * 4 ^ i, and the digits below are B % 2 ^ 64
 pub next-value : (B : ℕ) → 4 * (B / 2 ^ 64) + B % 2 ^ 64 / 2 ^ 62 ≡ B * 4 / 2 ^ 64
@@ -60,15 +64,18 @@ four-more m i = mul-assoc m (4 ^ i) 4 ∙ ap (λ (x : ℕ). m * x) (sym (pow-suc
 root-lt : (n r rest b : ℕ) → Root n r rest → n < b * b → r < b
 root-lt n r rest b w h = square-lt r b (lt-of-le-of-lt (le-trans (le-add-right (r * r) rest) (le-of-eq (w .sum))) h)
 
-pub loop-root-lt : (m i r rest : ℕ) → m < 2 ^ 64 → i ≤ 54 → Root (m * 4 ^ i / 2 ^ 64) r rest → r < 2 ^ 54
+loop-root-lt : (m i r rest : ℕ) → m < 2 ^ 64 → i ≤ 54 → Root (m * 4 ^ i / 2 ^ 64) r rest → r < 2 ^ 54
 loop-root-lt m i r rest h l w =
     root-lt (m * 4 ^ i / 2 ^ 64) r rest (2 ^ 54) w
     (div-lt-iff-lt-mul (pow-pos 64) .1
     (lt-of-le-of-lt (mul-le-mul-left m (pow-le-pow-right (zero-lt-suc 3) l)) (lt-of-lt-of-le (mul-lt-mul-of-pos-right h (one-le-pow 54 4 (zero-lt-suc 3))) (le-of-eq refl))))
 
--- one step on
-pub step-on : (n n' r rest r' rest' d : ℕ) → Root n r rest → 4 * n + d ≡ n' → Root (4 * (r * r + rest) + d) r' rest' → Root n' r' rest'
-step-on n n' r rest r' rest' d w e v = record { sum = v .sum ∙ ap (λ (x : ℕ). 4 * x + d) (w .sum) ∙ e; small = v .small }
+pub loop-sizes : (m i trial rest : ℕ) → m < 2 ^ 64 → i ≤ 54 → Tried (m * 4 ^ i / 2 ^ 64) trial rest → (0 < trial) × (trial < 2 ^ 60) × (rest < 2 ^ 60)
+loop-sizes m i trial rest h l t =
+    let r = loop-root-lt m i (t .root) rest h l (t .found) in
+    let e = t .is in
+    let s = t .found .small in
+    (omega arith, omega arith, omega arith)
 
 -- ---- the alignment: the zeros above the digits, or one less
 pub zeros-bound : (n : ℕ) → 0 < n → n < 2 ^ 53 → (11 ≤ leadingZeros 64 n) × (leadingZeros 64 n ≤ 63)

@@ -14,6 +14,12 @@ pub record Root (n r rest : ℕ) : Type 0 where
   pub sum : r * r + rest ≡ n
   pub small : rest ≤ 2 * r
 
+-- the same with the trial for the next digit, 4 * root + 1, in the root's place
+pub record Tried (n trial rest : ℕ) : Type 0 where
+  pub root : ℕ
+  pub is : trial ≡ 4 * root + 1
+  pub found : Root n root rest
+
 -- sig * 2 ^ exp smallest values are radicand * 2 ^ 44 * 4 ^ half squares of the smallest value. With 63 or 64 digits of the radicand the root of radicand * 2 ^ 44 has 54.
 pub record Aligned (sig exp radicand half : ℕ) : Type 0 where
   pub same : radicand * 2 ^ 44 * 4 ^ half ≡ sig * 2 ^ exp * 2 ^ 1074

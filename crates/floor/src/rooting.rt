@@ -1,8 +1,31 @@
 // The square root, digit by digit: shifts and subtractions, and no branch on a digit.
 ghost use mathlib.Core.Path.{_≡_};
-ghost use Prim.Native.Nat.{_+_, _*_, _^_, _<_, _≤_};
+ghost use Prim.Native.Nat.{ℕ, _+_, _*_, _^_, _<_, _≤_};
 ghost use Rattle.floor.specs.Root.{rootOf, roundRoot};
-ghost use Rattle.floor.specs.Steps.{Root, Aligned};
+ghost use Rattle.floor.specs.Steps.{Root, Tried, Aligned};
+
+// The trial for the next digit, one more than four times the root so far, and what that root's square leaves.
+struct Trial {
+    next: u64,
+    rest: u64,
+}
+
+// One more binary digit of the root, for the next two of the radicand. The digit is 0 where taking the
+// trial away would borrow: a choice, and not a branch, which would be guessed wrong at every other
+// digit. The trial is kept instead of the root, so that a digit costs the next one a subtraction and a choice.
+fn step(p: Trial, pair: u64) -> Trial
+    requires { ⌜ (0 < p.next) × (p.next < 2 ^ 60) × (p.rest < 2 ^ 60) × (pair < 4) ⌝ }
+    ensures { λ r. ⌜ ((n : ℕ) → Tried n p.next p.rest → Tried (4 * n + pair) r.next r.rest) ⌝ }
+{
+    let whole = 4 * p.rest + pair;
+    let left = std::num::wrapping_sub_u64(whole, p.next);
+    let borrow = left >> 63;
+    let rest = if borrow == 1 { whole } else { left };
+    Trial {
+        next: 2 * p.next + 3 - 4 * borrow,
+        rest,
+    }
+}
 
 // A whole root, and what its square leaves.
 struct Found {
@@ -10,27 +33,11 @@ struct Found {
     rest: u64,
 }
 
-// One more binary digit of the root, for the next two of the radicand. The digit is 0 where taking the
-// trial away would borrow: a number, and not a branch, which would be guessed wrong at every other
-// digit. The product with it compiles to a choice.
-fn step(p: Found, pair: u64) -> Found
-    requires { ⌜ (p.root < 2 ^ 60) × (p.rest ≤ 2 * p.root) × (pair < 4) ⌝ }
-    ensures { λ r. ⌜ Root (4 * (p.root * p.root + p.rest) + pair) r.root r.rest ⌝ }
-{
-    let trial = 4 * p.root + 1;
-    let rest = 4 * p.rest + pair;
-    let digit = 1 - (std::num::wrapping_sub_u64(rest, trial) >> 63);
-    Found {
-        root: 2 * p.root + digit,
-        rest: rest - digit * trial,
-    }
-}
-
 // The root of radicand * 2^44, 54 digits: 32 pairs of the radicand's, then zeros.
 fn digits(radicand: u64) -> Found
     ensures { λ r. ⌜ Root (radicand * 2 ^ 44) r.root r.rest ⌝ }
 {
-    let mut p = Found { root: 0, rest: 0 };
+    let mut p = Trial { next: 1, rest: 0 };
     let mut below = radicand;
     let mut i: u64 = 0;
     while i < 54 {
@@ -38,7 +45,10 @@ fn digits(radicand: u64) -> Found
         below = below << 2;
         i += 1;
     }
-    p
+    Found {
+        root: p.next >> 2,
+        rest: p.rest,
+    }
 }
 
 // A float's digits moved up to 63 or 64 places, so that the rest of its exponent is even.

@@ -10,6 +10,9 @@ mod raw {
         pub safe fn sm_round(x: u64) -> u64;
         pub safe fn sm_root(x: u64) -> u64;
         pub safe fn sm_fused(x: u64, y: u64, z: u64) -> u64;
+        pub safe fn sm_sine(x: u64) -> u64;
+        pub safe fn sm_cosine(x: u64) -> u64;
+        pub safe fn sm_logarithm(x: u64) -> u64;
         pub fn sm_blank(sheet: *mut u8, len: usize, rows: u32) -> u8;
         pub fn sm_edit(sheet: *mut u8, len: usize, row: u32, function: u8, a: u64, b: u64, c: u64) -> u8;
         pub fn sm_row_at(sheet: *const u8, len: usize, row: u32) -> usize;
@@ -31,6 +34,18 @@ pub fn single(name: &str, x: u64) -> u64 {
 
 pub fn root(x: f64) -> f64 {
     f64::from_bits(raw::sm_root(x.to_bits()))
+}
+
+pub fn sine(x: f64) -> f64 {
+    f64::from_bits(raw::sm_sine(x.to_bits()))
+}
+
+pub fn cosine(x: f64) -> f64 {
+    f64::from_bits(raw::sm_cosine(x.to_bits()))
+}
+
+pub fn logarithm(x: f64) -> f64 {
+    f64::from_bits(raw::sm_logarithm(x.to_bits()))
 }
 
 pub fn fused([x, y, z]: [u64; 3]) -> u64 {

@@ -6,6 +6,10 @@ ghost use lib.ListN.{length, take, drop};
 ghost use Rattle.floor.specs.Root.{rootOf};
 ghost use Rattle.floor.specs.Fused.{fusedOf};
 ghost use Rattle.floor.specs.Whole.{magnitudeOf, truncOf, floorOf, roundOf};
+ghost use Rattle.answer.specs.Answer.{valueOf};
+ghost use Rattle.kernel.specs.Sine.{sineOf};
+ghost use Rattle.kernel.specs.Cosine.{cosineOf};
+ghost use Rattle.kernel.specs.Logarithm.{logarithmOf};
 ghost use Rattle.sheet.specs.Calls.{blankRefusal, blankOf, editRefusal, editOf, rowRefusal, readOf, totalRefusal, totalOf};
 ghost use Rattle.shuttlemint.specs.Face.{evaluateRefusal, evaluateOut, rowPlaceOf};
 
@@ -53,6 +57,28 @@ pub extern "C" fn sm_fused(x: u64, y: u64, z: u64) -> u64
         bits::from_pattern(y),
         bits::from_pattern(z),
     ))
+}
+
+// The kernel: a refused argument has NaN for its value.
+#[no_mangle]
+pub extern "C" fn sm_sine(x: u64) -> u64
+    ensures { λ r. ⌜ r ≡ toBits binary64 (valueOf (sineOf (ofBits binary64 x))) ⌝ }
+{
+    bits::to_pattern(answer::value(kernel::sine(bits::from_pattern(x))))
+}
+
+#[no_mangle]
+pub extern "C" fn sm_cosine(x: u64) -> u64
+    ensures { λ r. ⌜ r ≡ toBits binary64 (valueOf (cosineOf (ofBits binary64 x))) ⌝ }
+{
+    bits::to_pattern(answer::value(kernel::cosine(bits::from_pattern(x))))
+}
+
+#[no_mangle]
+pub extern "C" fn sm_logarithm(x: u64) -> u64
+    ensures { λ r. ⌜ r ≡ toBits binary64 (valueOf (logarithmOf (ofBits binary64 x))) ⌝ }
+{
+    bits::to_pattern(answer::value(kernel::logarithm(bits::from_pattern(x))))
 }
 
 // The function of this number; its two answers' patterns go to out[0] and out[1]. Another length of `out` is refused with 7.

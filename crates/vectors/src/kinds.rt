@@ -1,6 +1,7 @@
 // What each kind of list is worked out by. A line holds the arguments' patterns, then the answer's.
 ghost use Prim.Native.Nat.{_<_, _≤_};
 use crate::line::word;
+use answer::Answer;
 
 // The kinds by number; 0 is none.
 pub(crate) fn kind_of(name: &[u8]) -> u8 {
@@ -35,6 +36,15 @@ fn more_kinds(name: &[u8]) -> u8 {
     if check::same(name, b"ellipeinc") {
         return 9;
     }
+    if check::same(name, b"sine") {
+        return 10;
+    }
+    if check::same(name, b"cosine") {
+        return 11;
+    }
+    if check::same(name, b"logarithm") {
+        return 12;
+    }
     0
 }
 
@@ -51,7 +61,43 @@ pub(crate) fn words(kind: u8) -> usize
     if kind == 7 {
         return 6;
     }
+    if kind > 9 {
+        return 4;
+    }
     3
+}
+
+// Whether a line's answer comes out again, and how much of its bound the answer uses, in millionths: less than
+// this many, and 0 where it uses none or bits are compared.
+pub(crate) struct Shown {
+    pub same: bool,
+    pub part: u64,
+}
+
+fn exact(same: bool) -> Shown {
+    Shown { same, part: 0 }
+}
+
+// Rounded up; where the quotient is no number or beyond a word, twice the bound.
+fn millionths(part: f64) -> u64 {
+    let t = part * 1000000.0;
+    if t > -1.0 {
+        if t < 18446744073709551616.0 {
+            return std::num::wrapping_add_u64(std::num::truncating_f64_to_u64(t), 1);
+        }
+    }
+    2000000
+}
+
+fn within(good: bool, distance: f64, bound: f64) -> Shown {
+    if distance == 0.0 {
+        return exact(good);
+    }
+    let part = distance / bound;
+    Shown {
+        same: good & (part <= 1.0),
+        part: millionths(part),
+    }
 }
 
 // The function of one argument.
@@ -107,33 +153,62 @@ fn agrees_complete(s: &[u8]) -> bool {
 }
 
 // Within 2^-36 of the reference, relative; a zero must be a zero.
-fn near(x: f64, reference: f64) -> bool {
-    floor::magnitude(x - reference) <= floor::magnitude(reference) * 1.4551915228366852e-11
-}
-
-fn agrees_near(kind: u8, s: &[u8]) -> bool {
+fn agrees_near(kind: u8, s: &[u8]) -> Shown {
     let a = word(s, 0);
     let b = word(s, 17);
     let reference = word(s, 34);
     let function = if kind == 8 { 4 } else { 5 };
     let z = answer::read(functions::evaluate(function, a.value, b.value, 0));
-    let close = near(z.first, bits::from_pattern(reference.value));
-    (a.good & b.good & reference.good) & ((z.refusal == 0) & close)
+    let y = bits::from_pattern(reference.value);
+    within(
+        a.good & b.good & reference.good & (z.refusal == 0),
+        floor::magnitude(z.first - y),
+        floor::magnitude(y) * 1.4551915228366852e-11,
+    )
+}
+
+// The kernel's functions.
+fn computed(kind: u8, x: f64) -> Answer {
+    if kind == 10 {
+        return kernel::sine(x);
+    }
+    if kind == 11 {
+        return kernel::cosine(x);
+    }
+    kernel::logarithm(x)
+}
+
+// The reference is the sum of two floats, and its bound stands beside it.
+fn agrees_bounded(kind: u8, s: &[u8]) -> Shown {
+    let x = word(s, 0);
+    let high = word(s, 17);
+    let low = word(s, 34);
+    let bound = word(s, 51);
+    let z = answer::read(computed(kind, bits::from_pattern(x.value)));
+    let away = z.first - bits::from_pattern(high.value) - bits::from_pattern(low.value);
+    within(
+        x.good & high.good & low.good & bound.good & (z.refusal == 0),
+        floor::magnitude(away),
+        bits::from_pattern(bound.value),
+    )
 }
 
 // Whether the line's answer comes out again.
-pub(crate) fn agrees(kind: u8, s: &[u8]) -> bool {
+pub(crate) fn agrees(kind: u8, s: &[u8]) -> Shown {
     if kind == 0 {
-        return false;
+        return exact(false);
     }
     if kind == 6 {
-        return agrees_fused(s);
+        return exact(agrees_fused(s));
     }
     if kind == 7 {
-        return agrees_complete(s);
+        return exact(agrees_complete(s));
+    }
+    if kind > 9 {
+        return agrees_bounded(kind, s);
     }
     if kind > 7 {
         return agrees_near(kind, s);
     }
-    agrees_single(kind, s)
+    exact(agrees_single(kind, s))
 }

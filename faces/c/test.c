@@ -1,0 +1,260 @@
+/* The C face on good, bad and damaged sheets, as C11 and as C++. Sheets lie against a page that no one may touch, and refused calls get bytes that can
+   only be read, so that a stray read or write ends the test. */
+#ifndef _DEFAULT_SOURCE
+#define _DEFAULT_SOURCE
+#endif
+#include "shuttlemint.h"
+
+#include <stdio.h>
+#include <sys/mman.h>
+#include <unistd.h>
+
+static unsigned checks, failures;
+
+static void check(int holds, const char *what, int line)
+{
+    checks++;
+    if (!holds) {
+        failures++;
+        printf("test.c:%d: not so: %s\n", line, what);
+    }
+}
+
+#define CHECK(what) check((what) != 0, #what, __LINE__)
+
+static const uint64_t ONE = 0x3ff0000000000000, PLUS = 0x7ff0000000000000, MINUS = 0xfff0000000000000, NOT_A_NUMBER = 0x7ff8000000000000;
+
+/* ---- memory that is watched */
+
+#define PAGES 13u /* the largest sheet has 49,480 bytes */
+
+static uint8_t *pages;
+static size_t page;
+
+/* So many bytes, all equal to `fill`, up against the page behind them. */
+static uint8_t *lent(size_t length, int fill)
+{
+    uint8_t *bytes = pages + PAGES * page - length;
+    mprotect(pages, PAGES * page, PROT_READ | PROT_WRITE);
+    memset(bytes, fill, length);
+    return bytes;
+}
+
+static void only_read(int yes)
+{
+    mprotect(pages, PAGES * page, yes ? PROT_READ : PROT_READ | PROT_WRITE);
+}
+
+static uint8_t *blank(uint32_t rows)
+{
+    uint8_t *sheet = lent(SM_SHEET_BYTES(rows), 0xa5);
+    CHECK(sm_blank(sheet, SM_SHEET_BYTES(rows), rows) == 0);
+    return sheet;
+}
+
+static uint32_t u32_at(const uint8_t *bytes)
+{
+    return bytes[0] | (uint32_t)bytes[1] << 8 | (uint32_t)bytes[2] << 16 | (uint32_t)bytes[3] << 24;
+}
+
+static uint64_t u64_at(const uint8_t *bytes)
+{
+    return u32_at(bytes) | (uint64_t)u32_at(bytes + 4) << 32;
+}
+
+static int counts_are(const uint8_t *sheet, size_t length, uint32_t blanks, uint32_t finite, uint32_t plus, uint32_t minus, uint32_t refused)
+{
+    const uint8_t *counts = sheet + SM_COUNTS(length);
+    return u32_at(counts) == blanks && u32_at(counts + 4) == finite && u32_at(counts + 8) == plus && u32_at(counts + 12) == minus &&
+           u32_at(counts + 16) == refused && u32_at(counts + 20) == 0;
+}
+
+/* ---- the tests */
+
+static int evaluates(uint8_t function, uint64_t a, uint64_t b, uint8_t refusal, uint64_t first, uint64_t second)
+{
+    uint64_t out[2] = {7, 7};
+    return sm_evaluate(function, a, b, NOT_A_NUMBER, out, 2) == refusal && out[0] == first && out[1] == second;
+}
+
+static void functions(void)
+{
+    uint64_t out[3] = {7, 7, 7};
+    CHECK(sm_root(sm_pattern(2.0)) == 0x3ff6a09e667f3bcd);
+    CHECK(sm_root(1) == 0x1e60000000000000);
+    CHECK(sm_root(sm_pattern(-1.0)) == NOT_A_NUMBER);
+    CHECK(sm_fused(ONE + 1, sm_pattern(0.9999999999999998), sm_pattern(-1.0)) == 0xb970000000000000);
+    CHECK(sm_sine(sm_pattern(-0.0)) == sm_pattern(-0.0) && sm_cosine(0) == ONE && sm_logarithm(ONE) == 0);
+    CHECK(sm_sine(sm_pattern(4.5)) == NOT_A_NUMBER && sm_cosine(PLUS) == NOT_A_NUMBER && sm_logarithm(0) == NOT_A_NUMBER);
+    CHECK(sm_value(sm_round(sm_pattern(-2.5))) == -3.0 && sm_value(sm_round(sm_pattern(2.5))) == 3.0);
+    CHECK(sm_value(sm_floor(sm_pattern(-2.5))) == -3.0 && sm_value(sm_trunc(sm_pattern(-2.5))) == -2.0);
+    CHECK(sm_value(sm_magnitude(sm_pattern(-2.5))) == 2.5 && sm_magnitude(MINUS + 1) == NOT_A_NUMBER);
+
+    CHECK(evaluates(SM_BLANK, NOT_A_NUMBER, 1, 0, 0, 0));
+    CHECK(evaluates(SM_ELLIPK, 0, 0, 0, 0x3ff921fb54442d18, 0));
+    CHECK(evaluates(SM_ELLIPE, ONE, 0, 0, ONE, 0));
+    CHECK(evaluates(SM_ELLIPKE, ONE, 0, 0, PLUS, ONE));
+    CHECK(evaluates(SM_ELLIPKE, MINUS, 0, 0, 0, PLUS));
+    CHECK(evaluates(SM_ELLIPPI, sm_pattern(2.0), ONE, 0, MINUS, 0));
+    CHECK(evaluates(SM_ELLIPEINC, 0, NOT_A_NUMBER, 0, 0, 0));
+    CHECK(evaluates(SM_ELLIPEINC, 1, 0, 0, 1, 0));
+    CHECK(evaluates(SM_ELLIPK, NOT_A_NUMBER + 5, 0, SM_NAN_ARGUMENT, 0, 0));
+    CHECK(evaluates(SM_ELLIPE, ONE + 1, 0, SM_PARAMETER_ABOVE_ONE, 0, 0));
+    CHECK(evaluates(SM_ELLIPEINC, ONE, sm_pattern(2.0), SM_AMPLITUDE_TOO_LARGE, 0, 0));
+    CHECK(evaluates(SM_ELLIPPI, ONE, ONE, SM_CHARACTERISTIC_ONE, 0, 0));
+    CHECK(evaluates(SM_ELLIPPI, sm_pattern(2.0), 0xeaa0000000000000 /* -2^683 */, SM_NOT_SETTLED, 0, 0));
+    CHECK(evaluates(SM_ELLIPEINC, 0x0170000000000000 /* 2^-1000 */, MINUS, SM_NO_NUMBER, 0, 0));
+    CHECK(evaluates(SM_LAST_FUNCTION + 1, 0, 0, SM_NO_SUCH_FUNCTION, 0, 0));
+
+    CHECK(sm_evaluate(SM_ELLIPK, 0, 0, 0, NULL, 0) == SM_NOT_A_SHEET);
+    CHECK(sm_evaluate(SM_ELLIPK, 0, 0, 0, out, 1) == SM_NOT_A_SHEET);
+    CHECK(sm_evaluate(SM_ELLIPK, 0, 0, 0, out, 3) == SM_NOT_A_SHEET);
+    CHECK(out[0] == 7 && out[1] == 7 && out[2] == 7);
+}
+
+static void good_sheets(void)
+{
+    const size_t length = SM_SHEET_BYTES(4);
+    uint8_t *sheet = blank(4);
+    const uint8_t *row;
+    CHECK(counts_are(sheet, length, 4, 0, 0, 0, 0));
+    CHECK(sm_edit(sheet, length, 0, SM_ELLIPKE, ONE, 1, 2) == 0);
+    CHECK(sm_edit(sheet, length, 1, SM_ELLIPEINC, 0, NOT_A_NUMBER, 0) == 0);
+    CHECK(sm_edit(sheet, length, 2, SM_ELLIPPI, ONE, ONE, 0) == 0);
+    CHECK(sm_edit(sheet, length, 3, SM_ELLIPEINC, sm_pattern(2.0), 0, 0) == 0);
+    only_read(1);
+    CHECK(counts_are(sheet, length, 0, 2, 1, 0, 1));
+    CHECK(sm_total(sheet, length) == sm_pattern(2.0) && sm_total_refusal(sheet, length) == 0);
+    CHECK(sm_row_at(sheet, length, 2) == 32 + 2 * SM_ROW_BYTES && sm_row_refusal(sheet, length, 2) == 0);
+    row = sheet + sm_row_at(sheet, length, 2);
+    CHECK(row[SM_ROW_FUNCTION] == SM_ELLIPPI && row[SM_ROW_REFUSAL] == SM_CHARACTERISTIC_ONE);
+    CHECK(u64_at(row + SM_ROW_ARGUMENTS) == ONE && u64_at(row + SM_ROW_ARGUMENTS + 8) == ONE && u64_at(row + SM_ROW_ARGUMENTS + 16) == 0);
+    row = sheet + sm_row_at(sheet, length, 0);
+    CHECK(u64_at(row + SM_ROW_ARGUMENTS + 8) == 0 && u64_at(row + SM_ROW_ANSWERS) == PLUS && u64_at(row + SM_ROW_ANSWERS + 8) == ONE);
+
+    /* Refused, on bytes that can only be read. */
+    CHECK(sm_row_at(sheet, length, 4) == length && sm_row_refusal(sheet, length, 4) == SM_NO_SUCH_ROW);
+    CHECK(sm_edit(sheet, length, 4, SM_LAST_FUNCTION + 1, 0, 0, 0) == SM_NO_SUCH_ROW);
+    CHECK(sm_edit(sheet, length, UINT32_MAX, 0, 0, 0, 0) == SM_NO_SUCH_ROW);
+    CHECK(sm_edit(sheet, length, 3, SM_LAST_FUNCTION + 1, 0, 0, 0) == SM_NO_SUCH_FUNCTION);
+    CHECK(sm_edit(sheet, length, 3, 255, 0, 0, 0) == SM_NO_SUCH_FUNCTION);
+    CHECK(sm_blank(sheet, length, 3) == SM_NOT_A_SHEET);
+    CHECK(sm_blank(sheet, length, 1025) == SM_TOO_MANY_ROWS);
+    only_read(0);
+    for (uint32_t i = 0; i < 4; i++)
+        CHECK(sm_edit(sheet, length, i, SM_BLANK, 0, 0, 0) == 0);
+    CHECK(counts_are(sheet, length, 4, 0, 0, 0, 0) && sm_total(sheet, length) == 0);
+}
+
+/* Bytes of a length or with contents that are not a sheet's: every call refuses and changes nothing. */
+static void is_no_sheet(uint8_t *bytes, size_t length)
+{
+    only_read(1);
+    CHECK(sm_edit(bytes, length, 0, SM_ELLIPK, 0, 0, 0) == SM_NOT_A_SHEET);
+    CHECK(sm_edit(bytes, length, UINT32_MAX, 255, 0, 0, 0) == SM_NOT_A_SHEET);
+    CHECK(sm_row_at(bytes, length, 0) == length && sm_row_refusal(bytes, length, 0) == SM_NOT_A_SHEET);
+    CHECK(sm_total(bytes, length) == 0 && sm_total_refusal(bytes, length) == SM_NOT_A_SHEET);
+    only_read(0);
+}
+
+static void bad_sheets(void)
+{
+    static const uint32_t sizes[] = {0, 1, SM_MOST_ROWS};
+    const size_t too_large = SM_SHEET_BYTES(SM_MOST_ROWS + 1);
+    for (size_t i = 0; i < sizeof sizes / sizeof *sizes; i++) {
+        const uint32_t rows = sizes[i];
+        const size_t length = SM_SHEET_BYTES(rows);
+        uint8_t *sheet = blank(rows);
+        CHECK(sm_total_refusal(sheet, length) == 0);
+        CHECK(sm_row_refusal(sheet, length, rows) == SM_NO_SUCH_ROW);
+        is_no_sheet(sheet, length - 1);
+        is_no_sheet(sheet + 1, length - 1);
+        sheet = lent(length + 1, 0);
+        CHECK(sm_blank(sheet, length, rows) == 0);
+        is_no_sheet(sheet, length + 1);
+        CHECK(sm_blank(sheet, length + 1, rows) == SM_NOT_A_SHEET);
+        CHECK(sm_blank(sheet, length - 1, rows) == SM_NOT_A_SHEET);
+    }
+    CHECK(sm_blank(lent(too_large, 0), too_large, SM_MOST_ROWS + 1) == SM_TOO_MANY_ROWS);
+    is_no_sheet(lent(too_large, 0), too_large);
+    is_no_sheet(lent(SM_SHEET_BYTES(1), 0), SM_SHEET_BYTES(1));
+    is_no_sheet(lent(0, 0), 0);
+    is_no_sheet(NULL, 0);
+    CHECK(sm_blank(NULL, 0, 0) == SM_NOT_A_SHEET);
+    CHECK(sm_blank(NULL, 0, UINT32_MAX) == SM_TOO_MANY_ROWS);
+}
+
+/* What an edit of the one row gives after this byte was set, on bytes that can only be read if it is refused. */
+static uint8_t after(size_t place, uint8_t byte)
+{
+    const size_t length = SM_SHEET_BYTES(1);
+    uint8_t *sheet = blank(1), refusal;
+    CHECK(sm_edit(sheet, length, 0, SM_ELLIPEINC, sm_pattern(-1.5), 0, 0) == 0);
+    sheet[place] = byte;
+    only_read(sm_row_refusal(sheet, length, 0) != 0);
+    refusal = sm_edit(sheet, length, 0, SM_ELLIPEINC, ONE, 0, 0);
+    if (refusal == 0)
+        CHECK(counts_are(sheet, length, 0, 1, 0, 0, 0));
+    if (refusal == SM_DAMAGED)
+        CHECK(sheet[place] == byte && sm_row_refusal(sheet, length, 0) == 0);
+    return refusal;
+}
+
+static void damaged_sheets(void)
+{
+    const size_t row = 32, counts = row + SM_ROW_BYTES;
+    for (size_t place = 0; place < 32; place++)
+        CHECK(after(place, 0x55) == SM_NOT_A_SHEET);
+    CHECK(after(row + SM_ROW_FUNCTION, 4) == 0);
+    CHECK(after(row + SM_ROW_FUNCTION, SM_LAST_FUNCTION + 1) == SM_DAMAGED);
+    CHECK(after(row + SM_ROW_FUNCTION, 0) == SM_DAMAGED); /* blank, and no blank row is counted */
+    CHECK(after(row + SM_ROW_REFUSAL, 6) == SM_DAMAGED);  /* refused, and no refused row is counted */
+    CHECK(after(row + SM_ROW_REFUSAL, 7) == SM_DAMAGED);
+    for (size_t place = 2; place < SM_ROW_ANSWERS + 8; place++)
+        CHECK(after(row + place, 0x55) == 0); /* zeros, arguments, and a first answer that is another finite number */
+    for (size_t place = 0; place < 20; place++)
+        CHECK(after(counts + place, 0x55) == SM_DAMAGED);
+    for (size_t place = 20; place < 296; place++)
+        CHECK(after(counts + place, 0x55) == 0); /* the four zeros and the total are not looked at */
+    {
+        uint8_t *sheet = blank(1);
+        const size_t length = SM_SHEET_BYTES(1);
+        memset(sheet + row + SM_ROW_ANSWERS, 0xff, 8);
+        only_read(1);
+        CHECK(sm_edit(sheet, length, 0, SM_BLANK, 0, 0, 0) == SM_DAMAGED); /* a NaN for a first answer */
+        CHECK(sm_row_refusal(sheet, length, 0) == 0 && sm_total_refusal(sheet, length) == 0);
+        only_read(0);
+    }
+}
+
+static void largest_sheet(void)
+{
+    const size_t length = SM_SHEET_BYTES(SM_MOST_ROWS);
+    uint8_t *sheet = blank(SM_MOST_ROWS);
+    unsigned accepted = 0;
+    /* 1e300, then ones, then -1e300: a running sum in doubles would lose the ones. */
+    for (uint32_t i = 0; i < SM_MOST_ROWS; i++) {
+        const double leg = i == 0 ? 1e300 : i == SM_MOST_ROWS - 1 ? -1e300 : 1.0;
+        accepted += sm_edit(sheet, length, i, SM_ELLIPEINC, sm_pattern(leg), 0, 0) == 0;
+    }
+    CHECK(accepted == SM_MOST_ROWS);
+    CHECK(sm_value(sm_total(sheet, length)) == 1022.0);
+    CHECK(sm_row_at(sheet, length, SM_MOST_ROWS - 1) == length - 296 - SM_ROW_BYTES);
+}
+
+int main(void)
+{
+    page = (size_t)sysconf(_SC_PAGESIZE);
+    pages = (uint8_t *)mmap(NULL, (PAGES + 1) * page, PROT_READ | PROT_WRITE, MAP_PRIVATE | MAP_ANONYMOUS, -1, 0);
+    if (pages == MAP_FAILED || mprotect(pages + PAGES * page, page, PROT_NONE) != 0) {
+        perror("test.c: pages");
+        return 1;
+    }
+    functions();
+    good_sheets();
+    bad_sheets();
+    damaged_sheets();
+    largest_sheet();
+    printf("%u checks, %u failures\n", checks, failures);
+    return failures != 0;
+}

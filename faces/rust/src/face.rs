@@ -1,0 +1,45 @@
+//! The proved library by its C names, and all unsafe code of this crate. A slice goes over as its start and its length.
+
+mod c {
+    extern "C" {
+        pub fn sm_evaluate(function: u8, a: u64, b: u64, c: u64, out: *mut u64, len: usize) -> u8;
+        pub fn sm_blank(sheet: *mut u8, len: usize, rows: u32) -> u8;
+        pub fn sm_edit(sheet: *mut u8, len: usize, row: u32, function: u8, a: u64, b: u64, c: u64) -> u8;
+        pub fn sm_row_at(sheet: *const u8, len: usize, row: u32) -> usize;
+        pub fn sm_row_refusal(sheet: *const u8, len: usize, row: u32) -> u8;
+        pub fn sm_total(sheet: *const u8, len: usize) -> u64;
+        pub fn sm_total_refusal(sheet: *const u8, len: usize) -> u8;
+    }
+}
+
+// SAFETY, here and below: the callee answers for every value of its arguments, touches only the elements that are lent, keeps no
+// pointer, and has no state of its own.
+pub fn evaluate(function: u8, a: u64, b: u64, c: u64) -> (u8, [u64; 2]) {
+    let mut out = [0; 2];
+    let refusal = unsafe { c::sm_evaluate(function, a, b, c, out.as_mut_ptr(), out.len()) };
+    (refusal, out)
+}
+
+pub fn blank(sheet: &mut [u8], rows: u32) -> u8 {
+    unsafe { c::sm_blank(sheet.as_mut_ptr(), sheet.len(), rows) }
+}
+
+pub fn edit(sheet: &mut [u8], row: u32, function: u8, [a, b, c]: [u64; 3]) -> u8 {
+    unsafe { c::sm_edit(sheet.as_mut_ptr(), sheet.len(), row, function, a, b, c) }
+}
+
+pub fn row_at(sheet: &[u8], row: u32) -> usize {
+    unsafe { c::sm_row_at(sheet.as_ptr(), sheet.len(), row) }
+}
+
+pub fn row_refusal(sheet: &[u8], row: u32) -> u8 {
+    unsafe { c::sm_row_refusal(sheet.as_ptr(), sheet.len(), row) }
+}
+
+pub fn total(sheet: &[u8]) -> u64 {
+    unsafe { c::sm_total(sheet.as_ptr(), sheet.len()) }
+}
+
+pub fn total_refusal(sheet: &[u8]) -> u8 {
+    unsafe { c::sm_total_refusal(sheet.as_ptr(), sheet.len()) }
+}

@@ -1,0 +1,243 @@
+//! The leg sheet. docs/SHEET.md of the project has its bytes.
+use crate::face;
+use crate::refusal::{accepted, Refusal};
+use std::fmt;
+
+const ROW: usize = 48;
+const TOTALS: usize = 296;
+const EMPTY: usize = 328;
+const MOST_ROWS: u32 = 1024;
+
+/// The `N` bytes at this place of bytes that have them.
+fn part<const N: usize>(bytes: &[u8], at: usize) -> [u8; N] {
+    bytes[at..at + N].try_into().expect("N bytes are N bytes")
+}
+
+/// A leg sheet in bytes that are owned (`Sheet`, which is `Sheet<Vec<u8>>`), lent (`Sheet<&mut [u8]>`) or only read (`Sheet<&[u8]>`).
+///
+/// ```
+/// use shuttlemint::{Refusal, Sheet};
+///
+/// let mut sheet = Sheet::blank(1)?;
+/// sheet.edit(0, 2, 0.5f64.to_bits(), 0, 0)?;
+/// let file = sheet.into_bytes();
+///
+/// let sheet = Sheet::from_bytes(&file[..])?;
+/// assert_eq!(sheet.row(0)?.function(), 2);
+/// assert_eq!(sheet.row(1).unwrap_err(), Refusal::NO_SUCH_ROW);
+/// assert_eq!(Sheet::from_bytes(&file[1..]).unwrap_err(), Refusal::NOT_A_SHEET);
+/// # Ok::<(), Refusal>(())
+/// ```
+#[derive(Clone, Debug, PartialEq, Eq)]
+pub struct Sheet<B = Vec<u8>> {
+    bytes: B,
+}
+
+impl Sheet {
+    /// A sheet of so many blank rows, in bytes of its own. Refusal: 11 for more than 1,024 rows.
+    pub fn blank(rows: u32) -> Result<Sheet, Refusal> {
+        // Too many rows are refused whatever the length is, so that no more bytes are taken for them.
+        Sheet::blank_in(vec![0; EMPTY + ROW * rows.min(MOST_ROWS) as usize], rows)
+    }
+}
+
+impl<B: AsRef<[u8]>> Sheet<B> {
+    /// The sheet that these bytes are. Refusal: 7 where their length or contents are not those of a sheet. Rows and totals are not looked at:
+    /// damage there shows when it is met.
+    pub fn from_bytes(bytes: B) -> Result<Sheet<B>, Refusal> {
+        accepted(face::total_refusal(bytes.as_ref()))?;
+        Ok(Sheet { bytes })
+    }
+
+    /// How many rows it has.
+    pub fn rows(&self) -> u32 {
+        (self.as_bytes().len().saturating_sub(EMPTY) / ROW) as u32
+    }
+
+    /// A row, in its own bytes of the sheet. Refusal: 8 for no such row.
+    pub fn row(&self, row: u32) -> Result<Row<'_>, Refusal> {
+        let bytes = self.as_bytes();
+        accepted(face::row_refusal(bytes, row))?;
+        let at = face::row_at(bytes, row);
+        Ok(Row { bytes: bytes[at..at + ROW].try_into().expect("48 bytes are a row") })
+    }
+
+    /// All rows, from row 0 on.
+    ///
+    /// ```
+    /// # use shuttlemint::{Class, Sheet};
+    /// let sheet = Sheet::blank(3).unwrap();
+    /// assert!(sheet.iter().all(|row| row.class() == Some(Class::Blank)));
+    /// ```
+    pub fn iter(&self) -> impl Iterator<Item = Row<'_>> {
+        (0..self.rows()).filter_map(move |row| self.row(row).ok())
+    }
+
+    /// The exact total of the finite rows' first answers, rounded once. It can be infinite, and a zero is +0.
+    ///
+    /// ```
+    /// # use shuttlemint::Sheet;
+    /// let mut sheet = Sheet::blank(3).unwrap();
+    /// for (row, leg) in [1e300f64, 1.0, -1e300].into_iter().enumerate() {
+    ///     sheet.edit(row as u32, 5, leg.to_bits(), 0, 0).unwrap();
+    /// }
+    /// assert_eq!(sheet.total(), 1.0);
+    /// ```
+    pub fn total(&self) -> f64 {
+        f64::from_bits(face::total(self.as_bytes()))
+    }
+
+    /// How many rows are of this class, by the sheet's own counts.
+    pub fn count(&self, class: Class) -> u32 {
+        let bytes = self.as_bytes();
+        match bytes.len().checked_sub(TOTALS) {
+            Some(totals) => u32::from_le_bytes(part(bytes, totals + 4 * class as usize)),
+            None => 0,
+        }
+    }
+
+    /// All its bytes.
+    pub fn as_bytes(&self) -> &[u8] {
+        self.bytes.as_ref()
+    }
+
+    /// The bytes, handed back.
+    pub fn into_bytes(self) -> B {
+        self.bytes
+    }
+}
+
+impl<B: AsRef<[u8]> + AsMut<[u8]>> Sheet<B> {
+    /// A sheet of so many blank rows in these bytes, whatever they held. Refusals: 11 for more than 1,024 rows, 7 for a length that is
+    /// not 328 + 48·rows.
+    ///
+    /// ```
+    /// # use shuttlemint::{Refusal, Sheet};
+    /// let mut lent = [0u8; 376];
+    /// Sheet::blank_in(&mut lent[..], 1)?.edit(0, 1, 0, 0, 0)?;
+    /// assert_eq!(lent[32], 1);
+    /// # Ok::<(), Refusal>(())
+    /// ```
+    pub fn blank_in(mut bytes: B, rows: u32) -> Result<Sheet<B>, Refusal> {
+        accepted(face::blank(bytes.as_mut(), rows))?;
+        Ok(Sheet { bytes })
+    }
+
+    /// Works out the function of this number at its arguments' bit patterns and puts it in the row, in place of what stands there.
+    /// Arguments that the function does not have are stored as 0. Refusals, in this order, each changing no byte: 8 for no such row, 9 for no
+    /// such function, 10 for a damaged row or damaged counts. A refusal of the function itself, 1 to 6, is not among them: the row keeps it.
+    pub fn edit(&mut self, row: u32, function: u8, a: u64, b: u64, c: u64) -> Result<(), Refusal> {
+        accepted(face::edit(self.bytes.as_mut(), row, function, [a, b, c]))
+    }
+
+    /// Makes a row blank: an edit to function 0.
+    ///
+    /// ```
+    /// # use shuttlemint::{Refusal, Sheet};
+    /// let mut sheet = Sheet::blank(1)?;
+    /// sheet.edit(0, 3, 0.25f64.to_bits(), 0, 0)?;
+    /// sheet.clear(0)?;
+    /// assert_eq!(sheet, Sheet::blank(1)?);
+    /// # Ok::<(), Refusal>(())
+    /// ```
+    pub fn clear(&mut self, row: u32) -> Result<(), Refusal> {
+        self.edit(row, 0, 0, 0, 0)
+    }
+}
+
+/// What a row adds to the counts.
+#[derive(Clone, Copy, Debug, PartialEq, Eq, Hash)]
+pub enum Class {
+    /// The function is 0.
+    Blank,
+    /// The first answer is finite: it is in the total.
+    Finite,
+    /// The first answer is +∞.
+    PlusInfinity,
+    /// The first answer is -∞.
+    MinusInfinity,
+    /// The row has a refusal in place of answers.
+    Refused,
+}
+
+/// A row's own 48 bytes in a sheet.
+#[derive(Clone, Copy, PartialEq, Eq)]
+pub struct Row<'a> {
+    bytes: &'a [u8; ROW],
+}
+
+impl<'a> Row<'a> {
+    fn pattern(self, place: usize) -> u64 {
+        u64::from_le_bytes(part(self.bytes, place))
+    }
+
+    /// The function's number, 0 for a blank row.
+    pub fn function(self) -> u8 {
+        self.bytes[0]
+    }
+
+    /// Why the row has no answer, if so.
+    pub fn refusal(self) -> Option<Refusal> {
+        Refusal::from_number(self.bytes[1])
+    }
+
+    /// The arguments' bit patterns; 0 for those that the function does not have.
+    pub fn arguments(self) -> [u64; 3] {
+        [8, 16, 24].map(|place| self.pattern(place))
+    }
+
+    /// The answers' bit patterns; 0 for those that the function does not have, and where the row is refused.
+    pub fn answers(self) -> [u64; 2] {
+        [32, 40].map(|place| self.pattern(place))
+    }
+
+    /// The answers as numbers, or the row's refusal.
+    ///
+    /// ```
+    /// # use shuttlemint::{ellipke, Refusal, Sheet};
+    /// let mut sheet = Sheet::blank(1)?;
+    /// sheet.edit(0, 3, 0.5f64.to_bits(), 0, 0)?;
+    /// let (first, second) = ellipke(0.5)?;
+    /// assert_eq!(sheet.row(0)?.values(), Ok([first, second]));
+    /// sheet.edit(0, 3, 2f64.to_bits(), 0, 0)?;
+    /// assert_eq!(sheet.row(0)?.values(), Err(Refusal::PARAMETER_ABOVE_ONE));
+    /// # Ok::<(), Refusal>(())
+    /// ```
+    pub fn values(self) -> Result<[f64; 2], Refusal> {
+        accepted(self.bytes[1])?;
+        Ok(self.answers().map(f64::from_bits))
+    }
+
+    /// The row's class; none where the first answer is NaN, which is damage.
+    pub fn class(self) -> Option<Class> {
+        if self.function() == 0 {
+            return Some(Class::Blank);
+        }
+        if self.refusal().is_some() {
+            return Some(Class::Refused);
+        }
+        match f64::from_bits(self.answers()[0]) {
+            x if x.is_finite() => Some(Class::Finite),
+            x if x == f64::INFINITY => Some(Class::PlusInfinity),
+            x if x == f64::NEG_INFINITY => Some(Class::MinusInfinity),
+            _ => None,
+        }
+    }
+
+    /// The 48 bytes themselves, in the sheet.
+    pub fn as_bytes(self) -> &'a [u8; ROW] {
+        self.bytes
+    }
+}
+
+impl fmt::Debug for Row<'_> {
+    fn fmt(&self, f: &mut fmt::Formatter) -> fmt::Result {
+        let hex = |patterns: &[u64]| patterns.iter().map(|p| format!("{p:016x}")).collect::<Vec<_>>().join(" ");
+        f.debug_struct("Row")
+            .field("function", &self.function())
+            .field("refusal", &self.refusal())
+            .field("arguments", &hex(&self.arguments()))
+            .field("answers", &hex(&self.answers()))
+            .finish()
+    }
+}

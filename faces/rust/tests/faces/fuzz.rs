@@ -1,0 +1,132 @@
+//! Any calls on any bytes, in any order.
+use crate::both::Both;
+use crate::functions;
+use crate::lent;
+use crate::model::{self, LAST};
+use crate::random::Random;
+
+/// A blank sheet of some size; now and then bytes that are none.
+fn bytes(random: &mut Random) -> Both {
+    let at_the_end = random.below(2) == 0;
+    let rows = random.one_of(&[0, 1, 1, 2, 3, 3, 7, 7, 7, 40, 40, 1024]);
+    let length = model::length(rows);
+    let any_length = random.below(1000) as usize;
+    let wrong = random.one_of(&[length - 1, length + 1, length + 48, model::length(1025), any_length]);
+    match random.below(36) {
+        0..=2 => Both::new(vec![random.next() as u8; wrong], at_the_end),
+        3..=5 => Both::new((0..length).map(|_| random.next() as u8).collect(), at_the_end),
+        6 => Both::new(model::worked_out(&vec![vec![0; 48]; 1025]), at_the_end),
+        _ => {
+            let mut both = Both::new(vec![random.next() as u8; length], at_the_end);
+            assert_eq!(both.blank(rows as u32), 0);
+            both
+        }
+    }
+}
+
+/// What stood at a place before it was damaged.
+type Wounds = Vec<(usize, u8)>;
+
+/// Sets a byte, mostly where it can change an answer and to a number that nearly fits; or a row's whole first answer.
+fn damage(random: &mut Random, both: &mut Both, wounds: &mut Wounds) {
+    let row = 32 + 48 * random.below(4);
+    let totals = both.model.bytes.len().saturating_sub(296) as u64;
+    let places = [
+        random.below(32),
+        row,
+        row + 1,
+        row + random.below(48),
+        totals + 4 * random.below(5),
+        totals + random.below(24),
+        totals + random.below(296),
+    ];
+    let mut set = |place: u64, byte: &dyn Fn(u8) -> u8| {
+        if let Some(&old) = both.model.bytes.get(place as usize) {
+            wounds.push((place as usize, old));
+            both.poke(place as usize, byte(old));
+        }
+    };
+    if random.below(8) == 0 {
+        let first = random.pattern().to_le_bytes();
+        return (0..8).for_each(|k| set(row + 32 + k, &|_| first[k as usize]));
+    }
+    let any = random.next() as u8;
+    let choice = random.below(7) as usize;
+    set(random.one_of(&places), &|old| [old ^ 1, old.wrapping_add(1), old.wrapping_sub(1), 0, 7, 0xff, any][choice]);
+}
+
+/// One call, or damage that stays for a while.
+fn step(random: &mut Random, both: &mut Both, wounds: &mut Wounds, whole: bool) {
+    let rows = both.model.bytes.len().saturating_sub(328) as u64 / 48;
+    let near = random.below(rows.max(1)) as u32;
+    let row = if random.below(10) > 0 { near } else { random.one_of(&[rows as u32, rows as u32 + 1, u32::MAX]) };
+    let function = random.one_of(&[0, 1, 2, 3, 4, 4, 5, 5, 5, 5, LAST, LAST + 1, 255]);
+    let arguments = random.patterns();
+    match random.below(32) {
+        0..=5 => _ = both.edit(row, function, arguments),
+        // ellipeinc(φ, 0) is φ: any float comes into the total.
+        6..=13 => _ = both.edit(row, 5, [arguments[0], 0, arguments[2]]),
+        14..=16 => _ = both.safe_edit(row, function, arguments),
+        17..=18 => _ = both.clear(row),
+        19..=20 => both.read_row(row),
+        21 => both.safe_read(row),
+        22..=23 => _ = both.read_total(),
+        24..=25 => both.count(functions::check(function, arguments, random.patterns())),
+        26 => {
+            let mut out = [7; 5];
+            let length = random.one_of(&[0, 1, 3, 4, 5]);
+            both.count(lent::evaluate(function, arguments, &mut out[..length]));
+            assert_eq!(out, [7; 5]);
+        }
+        27 if random.below(20) == 0 => {
+            let asked = random.one_of(&[rows as u32, rows as u32, rows as u32 + 1, 1025, u32::MAX]);
+            if both.blank(asked) == 0 {
+                wounds.clear();
+            }
+        }
+        27 if !whole => damage(random, both, wounds),
+        // The last wound first, so that the sheet before it comes back.
+        _ => {
+            if let Some((place, byte)) = wounds.pop() {
+                both.poke(place, byte);
+            }
+        }
+    }
+}
+
+fn run(seed: u64, least: u64) {
+    let mut random = Random(seed);
+    let (mut calls, mut sheets, mut seen) = (0, 0, [0; 256]);
+    while calls < least {
+        let mut both = bytes(&mut random);
+        let mut wounds = Wounds::new();
+        let whole = random.below(2) == 0;
+        for _ in 0..random.below(1000) {
+            step(&mut random, &mut both, &mut wounds, whole);
+        }
+        if whole && both.model.rows().is_some() {
+            both.is_worked_out();
+        }
+        sheets += 1;
+        calls += both.calls;
+        for (all, more) in seen.iter_mut().zip(both.seen) {
+            *all += more;
+        }
+    }
+    println!("seed {seed}: {calls} calls on {sheets} sheets, no difference; answers 0 to 12 came {:?} times", &seen[..13]);
+    assert!(seen[..12].iter().all(|&times| times > 0), "some refusal was never met");
+    assert!(seen[12..].iter().all(|&times| times == 0), "a number that no call gives");
+}
+
+#[test]
+fn short_run() {
+    run(1, 100_000);
+}
+
+/// FUZZ_SEED and FUZZ_CALLS change where it starts and how long it goes on.
+#[test]
+#[ignore = "ten million calls: run it with --release"]
+fn fuzz() {
+    let given = |name, otherwise| std::env::var(name).map_or(otherwise, |text| text.parse().expect(name));
+    run(given("FUZZ_SEED", 1), given("FUZZ_CALLS", 10_000_000));
+}

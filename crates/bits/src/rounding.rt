@@ -33,10 +33,8 @@ fn nearest_half(w: u64, more: bool) -> u64
     ensures { λ r. ⌜ r ≡ nearest (w / 2) (ordOf (w % 2) more) ⌝ }
 {
     let q = w / 2;
-    if w % 2 == 0 {
-        return q;
-    }
-    if more { q + 1 } else { q + q % 2 }
+    let up = if more { 1 } else { q % 2 };
+    q + w % 2 * up
 }
 
 // How many of 64 digits are dropped where e more follow: 11, so that 53 stay, or as many as lie

@@ -3,7 +3,7 @@ use mathlib.Core.Path.{_≡_, refl, sym, ap, _∙_, subst}
 use mathlib.Core.Logic.{_⊎_, inl, inr}
 use mathlib.Core.Bool.{Bool, true, false, _||_}
 use Prim.Native.Nat.{ℕ, zero, suc, _+_, _-_, _*_, _/_, _%_, _^_, _≤_, _<_, compare, Ordering, Ordering·lt, Ordering·eq, Ordering·gt}
-use native.Mathlib.Nat.{le-trans, le-of-eq, lt-of-le-of-lt, lt-of-lt-of-le, le-add-right, mul-pos, mul-assoc, mul-mul-mul-comm, mul-le-mul-right, mul-le-mul-left, mul-lt-mul-of-pos-right, pow-le-pow-right, suc-add, pow-suc, div-one, mod-one, div-eq-of-lt-le, div-div-eq-div-mul, div-lt-iff-lt-mul, one-le-pow, zero-lt-suc, mod-eq-of-lt}
+use native.Mathlib.Nat.{le-trans, le-of-eq, lt-of-le-of-lt, lt-of-lt-of-le, le-add-right, mul-pos, mul-assoc, mul-mul-mul-comm, mul-le-mul-right, mul-le-mul-left, mul-lt-mul-of-pos-right, pow-le-pow-right, suc-add, pow-suc, mul-div-cancel, mul-mod-left, div-eq-of-lt-le, div-div-eq-div-mul, div-lt-iff-lt-mul, one-le-pow, zero-lt-suc, mod-eq-of-lt}
 use native.Mathlib.Numerals.{add-one}
 use native.Mathlib.Omega.{arith}
 use lib.Count.{leadingZeros}
@@ -185,15 +185,27 @@ module _ (S j R rest : ℕ) (w : Root S R rest) (a : 2 ^ 53 ≤ R) (b : R < 2 ^ 
       ∙ ap (λ (q : ℕ). units binary64 false (nearest q (compare (S * 4 ^ j * 4) ((2 * q + 1) * 2 ^ suc j * ((2 * q + 1) * 2 ^ suc j)))) (suc j)) half
       ∙ ap (λ (o : Ordering). units binary64 false (nearest (R / 2) o) (suc j)) (squares (R / 2) ∙ side S R rest w)
 
-  -- and so it is what the one rounding makes of the 54 digits
-  pub rounded-root : roundedOf false (0 * 2 ^ 64 + R) (ltb 0 rest) (j + 1266) ≡ roundRoot (S * 4 ^ j)
+  -- and so it is what the one rounding makes of the 54 digits, which lead its 128
+  abbrev led : ℕ
+  led = R * 2 ^ 74
+
+  led-size : size led ≡ 128
+  led-size = size-exact led 127 (le-trans (lit≤ tt) (mul-le-mul-right (2 ^ 74) a)) (lt-of-lt-of-le (mul-lt-mul-of-pos-right b (pow-pos 74)) (lit≤ tt))
+
+  led-top : led / 2 ^ 74 ≡ R
+  led-top = mul-div-cancel R (pow-pos 74)
+
+  led-rest : led % 2 ^ 74 ≡ 0
+  led-rest = mul-mod-left R (2 ^ 74)
+
+  pub rounded-root : roundedOf false (R * 2 ^ 10 % 2 ^ 64 * 2 ^ 64 + 0) (ltb 0 rest) (j + 1192) ≡ roundRoot (S * 4 ^ j)
   unfolding roundedOf
   rounded-root =
-      ap (λ (x : ℕ). roundedOf false x (ltb 0 rest) (j + 1266)) (let z : 0 * 2 ^ 64 + R ≡ R = omega arith in z)
-      ∙ kept-round binary64 false _ R (j + 1266 + 1) 1267 0 (suc j) (ltb 0 rest) (with-half R (j + 1266) (ltb 0 rest)) (lt-of-lt-of-le (lit< tt) a)
-      (ap (λ (x : ℕ). x + (j + 1266 + 1) - 1267 - 53) (size-exact R 53 a b) ∙ (let z : 54 + (j + 1266 + 1) - 1267 - 53 ≡ suc j = omega arith in z))
-      (let z : 1267 + suc j ≡ suc (0 + (j + 1266 + 1)) = omega arith in z)
-      ∙ (λ i. units binary64 false (nearest (div-one R i / 2) (ordOf (div-one R i % 2) (or-none (ltb 0 rest) (R % 1) (mod-one R) i))) (suc j))
+      ap (λ (x : ℕ). roundedOf false x (ltb 0 rest) (j + 1192)) (ap (λ (x : ℕ). x * 2 ^ 64 + 0) (mod-eq-of-lt (let z : R * 2 ^ 10 < 2 ^ 64 = omega arith in z)) ∙ (let z : R * 2 ^ 10 * 2 ^ 64 + 0 ≡ led = omega arith in z))
+      ∙ kept-round binary64 false _ led (j + 1192 + 1) 1267 74 (suc j) (ltb 0 rest) (with-half led (j + 1192) (ltb 0 rest)) (lt-of-lt-of-le (lit< tt) (mul-le-mul-right (2 ^ 74) a))
+      (ap (λ (x : ℕ). x + (j + 1192 + 1) - 1267 - 53) led-size ∙ (let z : 128 + (j + 1192 + 1) - 1267 - 53 ≡ suc j = omega arith in z))
+      (let z : 1267 + suc j ≡ suc (74 + (j + 1192 + 1)) = omega arith in z)
+      ∙ (λ i. units binary64 false (nearest (led-top i / 2) (ordOf (led-top i % 2) (or-none (ltb 0 rest) (led % 2 ^ 74) led-rest i))) (suc j))
       ∙ sym units-are
     where
       or-none : (m : Bool) (n : ℕ) → n ≡ 0 → (m || ltb 0 n) ≡ m

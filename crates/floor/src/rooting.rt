@@ -76,7 +76,7 @@ fn root_of(sig: u64, exp: u64) -> f64
 {
     let a = aligned(sig, exp);
     let p = digits(a.digits);
-    bits::rounded(false, 0, p.root, p.rest > 0, a.half + 1266)
+    bits::rounded(false, p.root << 10, 0, p.rest > 0, a.half + 1192)
 }
 
 pub fn root(x: f64) -> f64

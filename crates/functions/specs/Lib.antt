@@ -1,3 +1,4 @@
--- What the contracts cite, and what the sheet needs of every function.
+-- What the contracts cite, which sort each argument is, and what the sheet needs of every function.
 pub mod Functions
+pub mod Sorts
 pub mod Laws

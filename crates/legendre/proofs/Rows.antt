@@ -1,40 +1,30 @@
--- A row of the code is the definition's row, padded with zeros; its own length picks it out again. Assumes nothing.
-use mathlib.Core.Path.{_≡_, refl}
-use mathlib.Core.Bool.{Bool, true, false, _&&_}
-use mathlib.Core.List.{List, [], _∷_, _++_, map}
-use Prim.Native.Nat.{ℕ, zero, suc, _+_, _-_, _≤_}
+-- Rows picked by a `match` on their number. Assumes nothing.
+use mathlib.Core.Path.{_≡_, sym, ap, _∙_}
+use mathlib.Core.List.{List, []}
+use Prim.Native.Nat.{ℕ, zero, suc, _≤_, _<_}
 use native.Mathlib.Omega.{arith}
-use lib.Dec.{T, leb, leb→le}
 use lib.Ieee.{Float}
-use lib.Ieee.Fits.{and-l, and-r}
-use lib.ListN.{length, take, getD, length-append}
-use lib.Seq.{take-append-seam}
-use Rattle.laws.specs.Arithmetic.{+0}
+use lib.ListN.{getD}
+use Rattle.legendre.specs.Polyeval.{polyevalOf}
 
-abbrev zeros : ℕ → List Float
-zeros zero = []
-zeros (suc n) = +0 ∷ zeros n
+-- the arm of row k evaluates the coefficients of row k
+pub arm : (rows : List (List Float)) {i k : ℕ} {r : Float} (x : Float) (c : List Float) → i ≡ k → r ≡ polyevalOf x c → c ≡ getD rows k [] → r ≡ polyevalOf x (getD rows i [])
+arm rows x c e h p = h ∙ ap (polyevalOf x) (p ∙ ap (λ (n : ℕ). getD rows n []) (sym e))
 
-abbrev pub padded : List Float → List Float
-padded r = r ++ zeros (20 - length r)
+-- none of the numbers below k, as the last arm of a `match` has it
+abbrev pub NoneBelow : ℕ → ℕ → Type 0
+NoneBelow zero i = Unit {0}
+NoneBelow (suc k) i = NoneBelow k i × (i ≡ k → ⊥)
 
-pub row-of : (rows : List (List Float)) (i : ℕ) → take (getD (map length rows) i 0) (getD (map padded rows) i []) ≡ getD rows i []
-row-of [] i = refl
-row-of (r ∷ rs) zero = take-append-seam r (zeros (20 - length r))
-row-of (r ∷ rs) (suc i) = row-of rs i
+reaches : (k i : ℕ) → NoneBelow k i → k ≤ i
+reaches zero i n = omega arith
+reaches (suc k) i (n, d) = next (reaches k i n) d
+  where
+    next : k ≤ i → (i ≡ k → ⊥) → suc k ≤ i
+    next h d = omega arith
 
--- the row holds as many numbers as its length says
-pub holds : (rows : List (List Float)) (i : ℕ) → getD (map length rows) i 0 ≤ length (getD (map padded rows) i [])
-holds [] i = omega arith
-holds (r ∷ rs) zero = simp length-append (omega arith)
-holds (r ∷ rs) (suc i) = holds rs i
-
--- a test of every row's length, computed once
-abbrev pub every : List (List Float) → Bool
-every [] = true
-every (r ∷ rs) = leb (length r) 20 && every rs
-
-pub short : (rows : List (List Float)) → T (every rows) → (i : ℕ) → getD (map length rows) i 0 ≤ 20
-short [] t i = omega arith
-short (r ∷ rs) t zero = leb→le (length r) 20 (and-l (leb (length r) 20) (every rs) t)
-short (r ∷ rs) t (suc i) = short rs (and-r (leb (length r) 20) (every rs) t) i
+pub last : (k : ℕ) {i : ℕ} → NoneBelow k i → i < suc k → i ≡ k
+last k {i} n h = meets (reaches k i n)
+  where
+    meets : k ≤ i → i ≡ k
+    meets g = omega arith

@@ -69,10 +69,10 @@ square-le a b h =
     let l : a < b + 1 = square-lt a (b + 1) k in
     omega arith
 
-pow-back : (i j : ℕ) → 2 ^ i ≤ 2 ^ j → i ≤ j
+pub pow-back : (i j : ℕ) → 2 ^ i ≤ 2 ^ j → i ≤ j
 pow-back i j h = le-of-suc-le-suc (lt-of-not-le (λ (g : suc j ≤ i). not-le-of-lt (pow-lt g) h))
 
-split : (k j : ℕ) → k ≤ j → 2 ^ j ≡ 2 ^ (j - k) * 2 ^ k
+pub split : (k j : ℕ) → k ≤ j → 2 ^ j ≡ 2 ^ (j - k) * 2 ^ k
 split k j h = ap (λ (z : ℕ). 2 ^ z) (let e : j ≡ j - k + k = omega arith in e) ∙ pow-add 2 (j - k) k
 
 nearest-most : (n v k j : ℕ) → 1 < v → (2 * v - 1) * 2 ^ k * ((2 * v - 1) * 2 ^ k) ≤ n * 4 → n ≤ 2 ^ j * 2 ^ j → v * 2 ^ k ≤ 2 ^ j

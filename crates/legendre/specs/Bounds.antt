@@ -1,21 +1,20 @@
 -- Values at most 2 ^ j units in size, and positive ones from 2 ^ i to 2 ^ j: how the operations keep such bounds. Assumes nothing.
 use mathlib.Core.Path.{_≡_, refl, sym, ap, _∙_, subst}
 use mathlib.Core.Logic.{_⊎_, inl, inr}
-use mathlib.Core.Bool.{Bool, true, false, not}
-use Prim.Native.Nat.{ℕ, zero, suc, _+_, _-_, _*_, _^_, _≤_, _<_}
-use native.Mathlib.Nat.{le-trans, le-of-eq, lt-of-lt-of-le, mul-pos, mul-le-mul, mul-le-mul-left, mul-le-mul-right, mul-assoc, mul-comm, mul-left-comm, pow-suc}
+use mathlib.Core.Bool.{Bool, false, not}
+use Prim.Native.Nat.{ℕ, suc, _+_, _*_, _^_, _≤_, _<_}
+use native.Mathlib.Nat.{le-trans, le-of-eq, lt-of-lt-of-le, mul-pos, mul-le-mul, mul-le-mul-left, mul-le-mul-right, mul-assoc, mul-comm, pow-suc}
 use native.Mathlib.Omega.{arith}
-use lib.Dec.{lit≤}
 use lib.Pow.{pow-add, pow-pos, pow-mono}
 use lib.Ieee.{Float, binary64, round, sum, neg, unlike}
 use lib.Ieee.Exact.{HasValue}
-use lib.Ieee.Scale.{grid, overflow}
-use Rattle.laws.specs.Arithmetic.{_⊕_, _⊖_, _⊗_, _⊘_, 2·0}
+use lib.Ieee.Scale.{grid}
+use Rattle.laws.specs.Arithmetic.{_⊕_, _⊖_, _⊗_, _⊘_}
 use Rattle.laws.specs.Rounding.{round-value}
 use Rattle.floor.specs.Root.{rootOf}
 use Rattle.legendre.specs.Beneath.{rooted, root-most, root-least}
 use Rattle.legendre.specs.Operations.{mul-is, div-is, add-is, sub-is, neg-value, Summed, summed}
-use Rattle.legendre.specs.Sizes.{grid-most, grid-least, below-overflow, units-same}
+use Rattle.legendre.specs.Sizes.{grid-most, grid-least, below-overflow}
 
 -- finite, and at most 2 ^ j units in size
 pub record Small (j : ℕ) (x : Float) : Type 0 where
@@ -81,23 +80,20 @@ within-mul {i} {j} {k} {l} m n {x} {y} M N g h v w =
     (within-round (v .units * w .units) (2 ^ 1074 * 2 ^ 1074) m n two-units M N (product-least (v .units) (w .units) i k m (v .least) (w .least) g) (product-most (v .units) (w .units) j l n (v .most) (w .most) h))
 
 -- ---- quotients
+turn : (p b u : ℕ) → p * b * u ≡ p * (u * b)
+turn p b u = mul-assoc p b u ∙ ap (λ (z : ℕ). p * z) (mul-comm b u)
+
 quotient-most : (a b i j k : ℕ) → a ≤ 2 ^ i → 2 ^ j ≤ b → i + 1074 ≤ k + j → a * 2 ^ 1074 * 2 ^ 1074 ≤ 2 ^ k * (2 ^ 1074 * b)
 quotient-most a b i j k p q h =
     let x : a * 2 ^ 1074 ≤ 2 ^ k * b =
     le-trans (mul-le-mul-right (2 ^ 1074) p) (le-trans (le-of-eq (sym (pow-add 2 i 1074))) (le-trans (pow-mono h) (le-trans (le-of-eq (pow-add 2 k j)) (mul-le-mul-left (2 ^ k) q)))) in
     le-trans (mul-le-mul-right (2 ^ 1074) x) (le-of-eq (turn (2 ^ k) b (2 ^ 1074)))
-  where
-    turn : (p b u : ℕ) → p * b * u ≡ p * (u * b)
-    turn p b u = mul-assoc p b u ∙ ap (λ (z : ℕ). p * z) (mul-comm b u)
 
 quotient-least : (a b i j k : ℕ) → 2 ^ i ≤ a → b ≤ 2 ^ j → k + j ≤ i + 1074 → 2 ^ k * (2 ^ 1074 * b) ≤ a * 2 ^ 1074 * 2 ^ 1074
 quotient-least a b i j k p q h =
     let x : 2 ^ k * b ≤ a * 2 ^ 1074 =
     le-trans (mul-le-mul-left (2 ^ k) q) (le-trans (le-of-eq (sym (pow-add 2 k j))) (le-trans (pow-mono h) (le-trans (le-of-eq (pow-add 2 i 1074)) (mul-le-mul-right (2 ^ 1074) p)))) in
     le-trans (le-of-eq (sym (turn (2 ^ k) b (2 ^ 1074)))) (mul-le-mul-right (2 ^ 1074) x)
-  where
-    turn : (p b u : ℕ) → p * b * u ≡ p * (u * b)
-    turn p b u = mul-assoc p b u ∙ ap (λ (z : ℕ). p * z) (mul-comm b u)
 
 pub small-div : {i j l : ℕ} (k : ℕ) {x y : Float} → k < 2098 → i + 1074 ≤ k + j → Small i x → Within j l y → Small k (x ⊘ y)
 small-div {i} {j} k {x} {y} K h v w =

@@ -1,14 +1,13 @@
 -- K from the last two means is finite: the square of their difference is at most half of what it is divided by, or that is an infinity. Assumes nothing.
 use mathlib.Core.Path.{_≡_, refl, sym, ap, _∙_, subst}
-use mathlib.Core.Logic.{_⊎_, inl, inr}
 use mathlib.Core.Bool.{Bool, true, false, not, cond}
-use Prim.Native.Nat.{ℕ, zero, suc, _+_, _-_, _*_, _^_, _≤_, _<_}
-use native.Mathlib.Nat.{le-trans, le-of-eq, le-of-lt, lt-of-le-of-lt, lt-of-lt-of-le, mul-le-mul, mul-le-mul-left, mul-le-mul-right, le-of-mul-le-mul-right, le-of-mul-le-mul-left, mul-assoc, mul-comm, mul-left-comm, mul-right-comm, mul-pos, mul-one}
+use Prim.Native.Nat.{ℕ, _+_, _-_, _*_, _^_, _≤_, _<_}
+use native.Mathlib.Nat.{le-trans, le-of-eq, lt-of-le-of-lt, lt-of-lt-of-le, mul-le-mul, mul-le-mul-left, mul-le-mul-right, le-of-mul-le-mul-right, le-of-mul-le-mul-left, mul-pos}
 use native.Mathlib.Omega.{arith}
 use lib.IntN.{pos}
 use lib.Dec.{T, ltb, ltb→lt, nltb→le, lit≤, lit<}
-use lib.Pow.{pow-add, pow-pos, pow-mono}
-use lib.Ieee.{Float, nan, inf, fin, binary64, round, sum, add, sub, div, unlike, ofBits, size}
+use lib.Pow.{pow-pos}
+use lib.Ieee.{Float, nan, inf, fin, binary64, round, sum, div, unlike, ofBits}
 use lib.Ieee.Fits.{round-is}
 use lib.Ieee.Exact.{HasValue}
 use lib.Ieee.Order.{drop, kept}
@@ -16,9 +15,9 @@ use lib.Ieee.Scale.{grid, overflow, grid-scale, normal-of-fraction}
 use Rattle.laws.specs.Arithmetic.{_⊕_, _⊖_, _⊗_, _⊘_, 1·0, 4·0, π}
 use Rattle.laws.specs.Rounding.{round-value, grid-near, units-over}
 use Rattle.legendre.specs.Ellipk.{kFromOf}
-use Rattle.legendre.specs.Operations.{mul-is, div-is, sub-is, Summed, summed}
+use Rattle.legendre.specs.Operations.{mul-is, div-is, sub-is}
 use Rattle.legendre.specs.Sizes.{grid-mono, grid-most, grid-least, below-overflow}
-use Rattle.legendre.specs.Bounds.{Small, Within, small, positive, wider, within-round, small-round, small-mul, within-mul, small-div}
+use Rattle.legendre.specs.Bounds.{Small, Within, small, within-round, within-mul, small-div}
 use Rattle.legendre.specs.Rounds.{one-value}
 
 four-value : HasValue 4·0 false (2 ^ 1076) (2 ^ 1074)

@@ -1,19 +1,18 @@
 -- ellipe.rs: E(m), operation by operation. Definitions only.
-use Prim.Native.Nat.{ℕ}
 use mathlib.Core.Bool.{Bool, false}
-use lib.Dec.{ltb}
+use Prim.Native.Nat.{ℕ}
 use lib.Ieee.{Float, neg}
 use Rattle.laws.specs.Arithmetic.{_⊕_, _⊖_, _⊗_, _⊘_, _≤·_, float, dec, ½, 1·0, 2·0, 4·0, π, ε}
 use Rattle.laws.specs.Ladder.{when_gives_else_}
 use Rattle.floor.specs.Root.{rootOf}
 use Rattle.floor.specs.Fused.{fusedOf}
-use Rattle.kernel.specs.Logarithm.{logarithmOf}
 use Rattle.answer.specs.Answer.{valueOf}
 use Rattle.answer.specs.declared.Answer.{Answer}
 use Rattle.answer.specs.declared.Answer.the-variants.{One, Infinite}
-use Rattle.legendre.specs.Domain.{byDomain}
+use Rattle.kernel.specs.Logarithm.{logarithmOf}
+use Rattle.legendre.specs.Domain.{byDomain, belowOneOf}
 use Rattle.legendre.specs.Mean.{arithmeticOf, geometricOf, goesOnOf, iterated}
-use Rattle.legendre.specs.Piece.{pieceOf, centreOf, ePieceOf}
+use Rattle.legendre.specs.Piece.{ePieceOf}
 use Rattle.legendre.specs.declared.e.Sums.{Sums}
 
 -- 2^-26, the root of the Rust's EPSILON
@@ -65,17 +64,14 @@ eFromOf s = s .e ⊗ (π ⊘ (s .x ⊕ s .y))
 unfoldable pub eMeanOf : ℕ → Float → Float
 eMeanOf rounds y0 = when y0 ≤· √ε gives nearOneOf y0 else eFromOf (lastSumsOf rounds eTolerance y0)
 
--- 0 ≤ m < 1: by its piece, and from 18 on by the mean
 unfoldable pub eBelowOneOf : ℕ → Float → Float
-eBelowOneOf rounds m =
-    let i = pieceOf m in
-    when ltb i 10 gives ePieceOf i (m ⊖ centreOf i) else eMeanOf rounds (rootOf (1·0 ⊖ m))
+eBelowOneOf rounds m = belowOneOf ePieceOf (eMeanOf rounds) m
 
 -- m < 0, by c = √(1-m) and m1 = m/(m-1)
 unfoldable pub eNegativeOf : ℕ → Float → Float → Float
 eNegativeOf rounds c m1 = c ⊗ (when dec 9 1 ≤· m1 gives eMeanOf rounds (1·0 ⊘ c) else eBelowOneOf rounds m1)
 
--- E(1) = 1, E(-∞) = ∞; with a bound on the rounds of the mean
+-- E(1) = 1, E(-∞) = ∞; with a bound on the rounds of the mean. The file's factor c is 1 for m ≥ 0, which changes nothing (`one-times`).
 unfoldable pub ellipeWithin : ℕ → Float → Answer
 ellipeWithin rounds m = byDomain m (One 1·0) (Infinite false) (One (eNegativeOf rounds (rootOf (1·0 ⊖ m)) (m ⊘ (m ⊖ 1·0)))) (One (eBelowOneOf rounds m))
 

@@ -1,15 +1,13 @@
 -- ellipk.rs: K(m), operation by operation. Definitions only.
-use lib.Ieee.{Float}
 use mathlib.Core.Bool.{Bool, false}
-use lib.Dec.{ltb}
+use lib.Ieee.{Float}
 use Rattle.laws.specs.Arithmetic.{_⊕_, _⊖_, _⊗_, _⊘_, dec, +0, 1·0, 4·0, π}
-use Rattle.laws.specs.Ladder.{when_gives_else_}
 use Rattle.floor.specs.Root.{rootOf}
 use Rattle.answer.specs.declared.Answer.{Answer}
 use Rattle.answer.specs.declared.Answer.the-variants.{One, Infinite}
-use Rattle.legendre.specs.Domain.{byDomain}
+use Rattle.legendre.specs.Domain.{byDomain, belowOneOf}
 use Rattle.legendre.specs.Mean.{arithmeticOf, geometricOf, goesOnOf, iterated}
-use Rattle.legendre.specs.Piece.{pieceOf, centreOf, kPieceOf}
+use Rattle.legendre.specs.Piece.{kPieceOf}
 use Rattle.legendre.specs.declared.k.Means.{Means}
 
 abbrev pub kTolerance : Float
@@ -36,11 +34,8 @@ lastMeansOf y0 = iterated goesOn nextOf 32 (record { x = 1·0; y = y0 })
 unfoldable pub kMeanOf : Float → Float
 kMeanOf y0 = kFromOf (lastMeansOf y0 .x) (lastMeansOf y0 .y)
 
--- 0 ≤ m < 1: by its piece, and from 18 on by the mean
 unfoldable pub kBelowOneOf : Float → Float
-kBelowOneOf m =
-    let i = pieceOf m in
-    when ltb i 10 gives kPieceOf i (m ⊖ centreOf i) else kMeanOf (rootOf (1·0 ⊖ m))
+kBelowOneOf m = belowOneOf kPieceOf kMeanOf m
 
 -- K(1) = ∞, K(-∞) = 0; negative m always by the mean
 unfoldable pub ellipkOf : Float → Answer

@@ -1,13 +1,13 @@
 -- ellipke.rs: K(m) and E(m) together, operation by operation (01, "ellipke"). Definitions only.
-use lib.Dec.{ltb}
+use Prim.Native.Nat.{ℕ}
 use lib.Ieee.{Float}
 use Rattle.laws.specs.Arithmetic.{_⊖_, _⊗_, _⊘_, _≤·_, dec, +0, +∞, 1·0}
 use Rattle.laws.specs.Ladder.{when_gives_else_}
 use Rattle.floor.specs.Root.{rootOf}
 use Rattle.answer.specs.declared.Answer.{Answer}
 use Rattle.answer.specs.declared.Answer.the-variants.{Pair}
-use Rattle.legendre.specs.Domain.{byDomain}
-use Rattle.legendre.specs.Piece.{pieceOf, centreOf, kPieceOf, ePieceOf}
+use Rattle.legendre.specs.Domain.{byDomain, belowOneOf}
+use Rattle.legendre.specs.Piece.{kPieceOf, ePieceOf}
 use Rattle.legendre.specs.Ellipk.{kFromOf}
 use Rattle.legendre.specs.Ellipe.{√ε, lastSumsOf, nearOneOf, eFromOf}
 use Rattle.legendre.specs.declared.ke.Both.{Both}
@@ -18,12 +18,11 @@ bothMeanOf y0 =
     let s = lastSumsOf 32 √ε y0 in
     record { k = kFromOf (s .x) (s .y); e = when y0 ≤· √ε gives nearOneOf y0 else eFromOf s }
 
--- 0 ≤ m < 1: by its piece, and from 18 on by the mean
+unfoldable pub bothPieceOf : ℕ → Float → Both
+bothPieceOf i delta = record { k = kPieceOf i delta; e = ePieceOf i delta }
+
 unfoldable pub bothBelowOneOf : Float → Both
-bothBelowOneOf m =
-    let i = pieceOf m in
-    let delta = m ⊖ centreOf i in
-    when ltb i 10 gives record { k = kPieceOf i delta; e = ePieceOf i delta } else bothMeanOf (rootOf (1·0 ⊖ m))
+bothBelowOneOf m = belowOneOf bothPieceOf bothMeanOf m
 
 unfoldable pub scaledOf : Float → Both → Both
 scaledOf c b = record { k = b .k ⊘ c; e = c ⊗ b .e }

@@ -1,11 +1,11 @@
 -- The loop of ellipe.rs ends: from 1 and any y0 above 2 ^ -26 and at most 1 its test fails within 8 rounds, so that the bound on the rounds never shows. Assumes nothing.
-use mathlib.Core.Path.{_≡_, refl, sym, ap, ap₂, _∙_, subst}
+use mathlib.Core.Path.{_≡_, refl, sym, ap, _∙_, subst}
 use mathlib.Core.List.{List, [], _∷_}
 use mathlib.Core.Bool.{Bool, true, false, not, cond, _&&_, _||_}
-use Prim.Native.Nat.{ℕ, zero, suc, _+_, _-_, _*_, _^_, _≤_, _<_}
-use native.Mathlib.Nat.{mul-one, le-trans, le-of-eq, le-of-lt, mul-le-mul-left, suc-add, zero-add}
+use Prim.Native.Nat.{ℕ, zero, suc, _+_, _-_, _*_, _^_, _≤_}
+use native.Mathlib.Nat.{le-of-lt, suc-add, zero-add}
 use native.Mathlib.Omega.{arith}
-use lib.Dec.{T, ltb, lit≤, lit<}
+use lib.Dec.{T, ltb, lit≤}
 use lib.Pow.{pow-pos}
 use lib.Ieee.{Float, binary64, fits, ofBits}
 use lib.Ieee.Exact.{HasValue}
@@ -13,11 +13,10 @@ use lib.Ieee.Fits.{and-l, and-r}
 use Rattle.laws.specs.Arithmetic.{_⊖_, _⊗_, _⊘_, _≤·_, dec, 1·0}
 use Rattle.laws.specs.Flags.{fails}
 use Rattle.floor.specs.Root.{rootOf}
-use Rattle.answer.specs.declared.Answer.{Answer}
-use Rattle.answer.specs.declared.Answer.the-variants.{One, Infinite}
+use Rattle.answer.specs.declared.Answer.the-variants.{One}
 use Rattle.legendre.specs.declared.e.Sums.{Sums}
+use Rattle.legendre.specs.Domain.{belowOneOf}
 use Rattle.legendre.specs.Mean.{arithmeticOf, geometricOf, goesOnOf, iterate, iterated}
-use Rattle.legendre.specs.Domain.{byDomain}
 use Rattle.legendre.specs.Piece.{pieceOf, centreOf, ePieceOf}
 use Rattle.legendre.specs.Ellipe.{√ε, eTolerance, startOf, nextOf, goesOn, lastSumsOf, nearOneOf, eFromOf, eMeanOf, eBelowOneOf, eNegativeOf, ellipeWithin, ellipeOf}
 use Rattle.legendre.specs.Places.{Negative, Unit, Place, refused-1, refused-2, one, lowest, negative, unit, place}
@@ -135,7 +134,7 @@ mean-same n y0 h w = go (y0 ≤· √ε) refl
     go false t = ap eFromOf (sums-same n y0 h (record { units = w .units; value = w .value; least = le-of-lt (units-lt y0 √ε (w .units) (2 ^ 1048) (2 ^ 1074) (pow-pos 1074) (w .value) √ε-value (fails t)); most = w .most }))
 
 below-same : (n : ℕ) (m : Float) → 8 ≤ n → Unit m → eBelowOneOf n m ≡ eBelowOneOf 8 m
-unfolding eBelowOneOf
+unfolding eBelowOneOf belowOneOf
 below-same n m h u = ap (λ (z : Float). cond (ltb (pieceOf m) 10) (ePieceOf (pieceOf m) (m ⊖ centreOf (pieceOf m))) z) (mean-same n (rootOf (1·0 ⊖ m)) h (unit-start u))
 
 negative-same : (n : ℕ) (m : Float) → 8 ≤ n → Negative m → eNegativeOf n (rootOf (1·0 ⊖ m)) (m ⊘ (m ⊖ 1·0)) ≡ eNegativeOf 8 (rootOf (1·0 ⊖ m)) (m ⊘ (m ⊖ 1·0))

@@ -1,14 +1,14 @@
 -- What is used of the logarithm: it is finite, and at most 2 ^ 16 in size. No other file looks inside it. Assumes nothing.
-use mathlib.Core.Path.{_≡_, sym, ap, _∙_, subst}
-use mathlib.Core.Bool.{Bool, true, false, cond, true≢false}
+use mathlib.Core.Path.{_≡_, sym, ap, _∙_}
+use mathlib.Core.Bool.{true, false, true≢false}
 use Prim.Native.Nat.{ℕ, zero, suc, _+_, _-_, _*_, _/_, _^_, _≤_, _<_}
-use native.Mathlib.Nat.{le-trans, lt-of-le-of-lt, lt-of-lt-of-le, lt-irrefl, le-of-eq, mul-pos, zero-mul, zero-lt-suc, mul-le-mul, mul-le-mul-right, div-le-self, div-le-of-le-mul, mul-div-left, mul-comm}
+use native.Mathlib.Nat.{le-trans, lt-of-le-of-lt, lt-of-lt-of-le, lt-irrefl, le-of-eq, mul-pos, zero-mul, mul-le-mul, mul-le-mul-right, div-le-self, div-le-of-le-mul, mul-div-left}
 use native.Mathlib.Omega.{arith}
 use borrow.Author.Tests.{ne-eqb}
-use lib.Dec.{ltb, lit≤, lit<}
+use lib.Dec.{lit≤, lit<}
 use lib.Pow.{pow-pos, pow-mono}
 use lib.IntN.{ℤ}
-use lib.Ieee.{Float, nan, inf, fin, binary64, round, up, down}
+use lib.Ieee.{Float, nan, inf, fin, up, down}
 use lib.Ieee.Fits.{down-pos}
 use Rattle.kernel.specs.Alternating.{apart}
 use Rattle.kernel.specs.Series.{unitsOf, places}

@@ -1,6 +1,6 @@
 -- The arithmetic-geometric mean (DLMF 19.8(i)) as ellipk.rs, ellipe.rs and ellipke.rs run it. Definitions only.
-use Prim.Native.Nat.{ℕ, zero, suc}
 use mathlib.Core.Bool.{Bool, true, false}
+use Prim.Native.Nat.{ℕ, zero, suc}
 use lib.Ieee.{Float}
 use Rattle.laws.specs.Arithmetic.{_⊕_, _⊖_, _⊗_, _⊘_, _≤·_, 2·0}
 use Rattle.floor.specs.Root.{rootOf}

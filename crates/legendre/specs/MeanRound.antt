@@ -1,27 +1,22 @@
 -- One round of the mean on floats from 2 ^ -26 to 1, as a round over whole numbers (Ratios.antt). Assumes nothing.
-use mathlib.Core.Path.{_≡_, refl, sym, ap, ap₂, _∙_, subst}
-use mathlib.Core.Logic.{_⊎_, inl, inr}
-use mathlib.Core.List.{List, [], _∷_}
-use mathlib.Core.Bool.{Bool, true, false, not, _&&_, _||_}
-use Prim.Native.Nat.{ℕ, zero, suc, _+_, _-_, _*_, _^_, _≤_, _<_}
-use native.Mathlib.Nat.{mul-add, mul-assoc, mul-comm, mul-left-comm, mul-right-comm, mul-one, one-mul, mul-pos, le-trans, le-of-eq, le-of-lt, lt-of-lt-of-le, lt-of-le-of-lt, mul-le-mul, mul-le-mul-left, mul-le-mul-right, le-of-mul-le-mul-left, le-of-mul-le-mul-right, lt-of-mul-lt-mul-left, suc-add, zero-add}
+use mathlib.Core.Path.{_≡_, refl, sym, subst}
+use mathlib.Core.Bool.{false}
+use Prim.Native.Nat.{ℕ, _+_, _-_, _*_, _^_, _≤_, _<_}
+use native.Mathlib.Nat.{mul-pos, le-trans, le-of-eq, lt-of-lt-of-le, mul-le-mul, mul-le-mul-right, le-of-mul-le-mul-right}
 use native.Mathlib.Omega.{arith}
-use lib.Dec.{T, leb, ltb, leb→le, nleb→lt, ltb→lt, not-T, lit≤, lit<}
-use lib.Pow.{pow-add, pow-pos, pow-mono}
-use lib.Ieee.{Float, binary64, round, le, ofBits, mul}
+use lib.Dec.{T, lit≤, lit<}
+use lib.Pow.{pow-pos}
+use lib.Ieee.{Float, binary64, round, ofBits}
 use lib.Ieee.Exact.{HasValue}
-use lib.Ieee.Fits.{and-l, and-r}
-use lib.Ieee.Scale.{grid, overflow, normal-of-fraction, normal-of-rounded}
-use Rattle.laws.specs.Arithmetic.{_⊕_, _⊖_, _⊗_, _⊘_, _≤·_, dec, 1·0, 2·0}
+use lib.Ieee.Scale.{grid, normal-of-fraction}
+use Rattle.laws.specs.Arithmetic.{_⊕_, _⊗_, 2·0}
 use Rattle.laws.specs.Rounding.{grid-near, round-value}
-use Rattle.floor.specs.Whole.{magnitudeOf}
-use Rattle.legendre.specs.Mean.{arithmeticOf, geometricOf, goesOnOf}
-use Rattle.legendre.specs.Ellipe.{eTolerance}
-use Rattle.legendre.specs.Operations.{mul-is, div-is, Apart, apart}
-use Rattle.legendre.specs.Beneath.{magnitude-value, Rooted, rooted, nearest-hi, nearest-lo}
-use Rattle.legendre.specs.Sizes.{units-same, units-le, grid-most, below-overflow}
-use Rattle.legendre.specs.Bounds.{Within, looser, positive, add-plain, within-add, within-mul}
-use Rattle.legendre.specs.Rounds.{one, arithmetic-within, geometric-within}
+use Rattle.legendre.specs.Mean.{arithmeticOf, geometricOf}
+use Rattle.legendre.specs.Operations.{mul-is, div-is}
+use Rattle.legendre.specs.Beneath.{Rooted, rooted, nearest-hi, nearest-lo}
+use Rattle.legendre.specs.Sizes.{units-same, grid-most, below-overflow}
+use Rattle.legendre.specs.Bounds.{Within, positive, add-plain, within-add, within-mul}
+use Rattle.legendre.specs.Rounds.{arithmetic-within, geometric-within}
 use Rattle.legendre.specs.Ratios.{Round, rung, next, near-hi, near-lo, cancel}
 
 -- ---- a rounded fraction in the normal range: g units, off by one part in 2 ^ 53

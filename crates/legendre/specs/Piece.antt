@@ -1,11 +1,11 @@
 -- Which piece m falls in (01, "ellipke"; the `match` of ellipk.rs, ellipe.rs and ellipke.rs), and K and E there. Definitions only.
-use Prim.Native.Nat.{ℕ, _-_, _/_}
 use mathlib.Core.Bool.{_&&_}
-use mathlib.Core.List.{List, [], _∷_}
+use mathlib.Core.List.{[], _∷_}
+use Prim.Native.Nat.{ℕ, _-_, _/_}
 use lib.Dec.{ltb}
 use lib.Ieee.{Float, nan, neg, toUnsigned}
 use lib.ListN.{getD}
-use Rattle.laws.specs.Arithmetic.{_⊖_, _⊗_, _<·_, float, dec, 1·0, 20·0}
+use Rattle.laws.specs.Arithmetic.{_⊗_, _<·_, float, dec, 1·0, 20·0}
 use Rattle.laws.specs.Ladder.{when_gives_else_}
 use Rattle.legendre.specs.Coeffs.{kRows, eRows}
 use Rattle.legendre.specs.Polyeval.{polyevalOf}

@@ -1,23 +1,24 @@
 -- Where an f64 falls in `byDomain`, and what is known of it there. Assumes nothing.
 use mathlib.Core.Path.{_≡_, refl, sym, ap, _∙_, subst}
-use mathlib.Core.Bool.{Bool, true, false, not, _&&_, _||_, Bool·beq, true≢false}
+use mathlib.Core.Bool.{Bool, true, false, not, _&&_, true≢false}
 use Prim.Native.Nat.{ℕ, zero, suc, _+_, _-_, _*_, _%_, _^_, _≤_, _<_}
-use native.Mathlib.Nat.{le-trans, le-of-eq, le-of-lt, lt-of-lt-of-le, lt-of-not-le, not-le-of-lt, mul-one, one-mul, zero-mul, mul-assoc, mul-comm, mul-pos, mul-le-mul-right, mul-lt-mul-of-pos-right, le-of-mul-le-mul-right, lt-of-mul-lt-mul-right}
+use native.Mathlib.Nat.{le-of-eq, lt-of-lt-of-le, mul-one, zero-mul, mul-assoc, mul-comm, mul-pos, mul-lt-mul-of-pos-right, lt-of-mul-lt-mul-right}
 use native.Mathlib.Omega.{arith}
 use lib.IntN.{ℤ, pos, negsuc}
-use lib.Dec.{T, ltb, leb, eqb, ltb→lt, lt→ltb, nltb→le, leb→le, eqb-refl, eqb→eq}
-use lib.Pow.{pow-add, pow-pos, pow-lt}
+use lib.Dec.{T, ltb, leb, eqb, ltb→lt, nltb→le, leb→le, eqb-refl}
+use lib.Pow.{pow-add, pow-pos}
 use lib.Ieee.{Float, nan, inf, fin, binary64, up, down, fits, lt, eq, ne, ofBits}
-use lib.Ieee.Bits.{is-true, is-false}
+use lib.Ieee.Bits.{is-true}
 use lib.Ieee.Digits.{back}
 use lib.Ieee.Exact.{HasValue}
-use lib.Ieee.Fits.{up-pos, down-pos, and-l, and-r, and-i, eq→eqb}
+use lib.Ieee.Fits.{down-pos, and-l, and-r, and-i, eq→eqb}
 use Rattle.laws.specs.Arithmetic.{_<·_, _=·_, _≠·_, +0, -∞, 1·0}
 use Rattle.laws.specs.Flags.{holds, fails}
 use Rattle.answer.specs.declared.Answer.{Answer}
 use Rattle.answer.specs.declared.Answer.the-variants.{Refused}
+use Rattle.legendre.specs.Beneath.{pow-back}
 use Rattle.legendre.specs.Domain.{byDomain}
-use Rattle.legendre.specs.Decided.{at-nan, over, at-one, at-minus-infinity, where-negative, below-one}
+use Rattle.legendre.specs.Decided.{over, at-one, where-negative, below-one}
 
 -- finite and below 0
 pub record Negative (m : Float) : Type 0 where
@@ -47,15 +48,12 @@ pub record Units (w : ℕ) (e : ℤ) : Type 0 where
   pub count : ℕ
   pub is : w * 2 ^ 1074 ≡ count * down e
 
-pow-le : (i j : ℕ) → 2 ^ i ≤ 2 ^ j → i ≤ j
-pow-le i j h = native.Mathlib.Nat.le-of-suc-le-suc (lt-of-not-le (λ (g : suc j ≤ i). not-le-of-lt (pow-lt g) h))
-
 pub in-units : (w : ℕ) (e : ℤ) → down e ≤ 2 ^ 1074 → Units w e
 in-units w (pos k) h = record { count = w * 2 ^ 1074; is = sym (mul-one (w * 2 ^ 1074)) }
 in-units w (negsuc k) h =
     record {
       count = w * 2 ^ (1074 - suc k);
-      is = ap (λ (z : ℕ). w * z) (ap (λ (z : ℕ). 2 ^ z) (sym (back 1074 (suc k) (pow-le (suc k) 1074 h))) ∙ pow-add 2 (1074 - suc k) (suc k)) ∙ sym (mul-assoc w (2 ^ (1074 - suc k)) (2 ^ suc k));
+      is = ap (λ (z : ℕ). w * z) (ap (λ (z : ℕ). 2 ^ z) (sym (back 1074 (suc k) (pow-back (suc k) 1074 h))) ∙ pow-add 2 (1074 - suc k) (suc k)) ∙ sym (mul-assoc w (2 ^ (1074 - suc k)) (2 ^ suc k));
     }
 
 no-units : (e : ℤ) → Units (0 * up e) e

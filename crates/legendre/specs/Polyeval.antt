@@ -1,6 +1,6 @@
 -- polyeval.rs, at f64: a polynomial by its coefficients, lowest first, each operation rounded. Definitions only.
-use Prim.Native.Nat.{ℕ}
 use mathlib.Core.List.{List, [], _∷_}
+use Prim.Native.Nat.{ℕ}
 use lib.Dec.{eqb}
 use lib.Ieee.{Float, nan}
 use lib.ListN.{getD, length}

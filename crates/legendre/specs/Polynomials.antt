@@ -1,20 +1,19 @@
 -- K and E on the pieces are finite: every coefficient is below 2 ^ 60, a test that is computed once over the tables. Assumes nothing.
-use mathlib.Core.Path.{_≡_, refl, sym, ap, _∙_, subst}
-use mathlib.Core.Bool.{Bool, true, false, not, cond, _&&_}
+use mathlib.Core.Path.{_≡_, refl, sym, subst}
+use mathlib.Core.Bool.{Bool, true, false, cond, _&&_}
 use mathlib.Core.List.{List, [], _∷_}
 use Prim.Native.Nat.{ℕ, zero, suc, _+_, _*_, _^_, _≤_, _<_}
 use native.Mathlib.Nat.{le-trans, le-of-eq, le-of-mul-le-mul-right, not-suc-le-zero, le-of-suc-le-suc}
 use native.Mathlib.Omega.{arith}
-use lib.Dec.{T, ltb, leb, eqb, leb→le, ltb→lt, eqb→eq, lit≤, lit<}
-use lib.Ieee.{Float, nan, inf, fin, up, down, ofBits, neg, toUnsigned}
+use lib.Dec.{T, leb, eqb, leb→le, eqb→eq, lit≤, lit<}
+use lib.Ieee.{Float, nan, inf, fin, up, down, ofBits, neg}
 use lib.Ieee.Fits.{down-pos, and-l, and-r}
 use lib.ListN.{getD, length}
 use Rattle.laws.specs.Arithmetic.{_⊕_, _⊖_, _⊗_, dec, +0}
-use Rattle.laws.specs.Flags.{holds}
 use Rattle.legendre.specs.Coeffs.{kRows, eRows}
 use Rattle.legendre.specs.Polyeval.{pairedOf, hornerOf, polyevalOf}
 use Rattle.legendre.specs.Piece.{centreOf, kPieceOf, ePieceOf}
-use Rattle.legendre.specs.Places.{Units, in-units, Unit}
+use Rattle.legendre.specs.Places.{in-units, Unit}
 use Rattle.legendre.specs.Bounds.{Small, wider, small-mul, small-add, small-sub}
 
 -- ---- a test of a value's size

@@ -1,9 +1,9 @@
 -- One round of the arithmetic-geometric mean over whole numbers: how near to 1 the ratio of the two comes, where each operation is off by one part in W and the root by one in H. Assumes nothing.
 use mathlib.Core.Path.{_≡_, sym, ap, subst}
+use mathlib.Core.Bool.{Bool, true, false, not, _&&_}
 use Prim.Native.Nat.{ℕ, _+_, _-_, _*_, _≤_, _<_}
 use native.Mathlib.Nat.{mul-add, add-mul, mul-assoc, mul-comm, mul-left-comm, mul-mul-mul-comm, le-trans, le-of-eq, lt-of-not-le, not-le-of-lt, mul-le-mul, mul-le-mul-left, mul-le-mul-right, le-of-mul-le-mul-left, le-of-mul-le-mul-right, one-mul}
 use native.Mathlib.Omega.{arith}
-use mathlib.Core.Bool.{Bool, true, false, not, _&&_}
 use lib.Dec.{T, leb, ltb, leb→le, nleb→lt, ltb→lt}
 use lib.Ieee.Fits.{and-l, and-r}
 

@@ -1,20 +1,19 @@
 -- The two means stay between the bounds of the numbers that they are means of, and the run of the iteration keeps what every round keeps. Assumes nothing.
-use mathlib.Core.Path.{_≡_, refl, sym, ap, _∙_, subst}
-use mathlib.Core.Logic.{_⊎_, inl, inr}
+use mathlib.Core.Path.{_≡_, refl, sym, subst}
 use mathlib.Core.Bool.{Bool, true, false}
 use Prim.Native.Nat.{ℕ, zero, suc, _+_, _-_, _*_, _^_, _≤_, _<_}
-use native.Mathlib.Nat.{le-trans, le-of-eq, mul-le-mul-right, mul-le-mul-left}
+use native.Mathlib.Nat.{le-trans, mul-le-mul-right}
 use native.Mathlib.Omega.{arith}
 use lib.Dec.{lit≤, lit<}
-use lib.Pow.{pow-pos, pow-mono}
+use lib.Pow.{pow-pos}
 use lib.Ieee.{Float, binary64, round, ofBits, size}
 use lib.Ieee.Exact.{HasValue}
-use lib.Ieee.Scale.{grid, overflow}
+use lib.Ieee.Scale.{grid}
 use Rattle.laws.specs.Arithmetic.{_⊕_, 1·0, 2·0}
 use Rattle.laws.specs.Rounding.{round-value}
 use Rattle.legendre.specs.Mean.{arithmeticOf, geometricOf, iterate}
 use Rattle.legendre.specs.Sizes.{grid-mono, grid-least, below-overflow}
-use Rattle.legendre.specs.Bounds.{Within, looser, add-plain, within-add, within-mul, within-div, within-root}
+use Rattle.legendre.specs.Bounds.{Within, add-plain, within-add, within-mul, within-div, within-root}
 
 pub one-value : HasValue 1·0 false (2 ^ 1074) (2 ^ 1074)
 unfolding ofBits
@@ -23,7 +22,7 @@ one-value = (refl, refl)
 pub one : Within 1074 1074 1·0
 one = record { units = 2 ^ 1074; value = one-value; least = lit≤ tt; most = lit≤ tt }
 
-two : Within 1075 1075 2·0
+pub two : Within 1075 1075 2·0
 unfolding ofBits
 two = record { units = 2 ^ 1075; value = (refl, refl); least = lit≤ tt; most = lit≤ tt }
 

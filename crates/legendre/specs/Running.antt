@@ -2,15 +2,15 @@
 use mathlib.Core.Path.{_≡_, refl, sym, _∙_, subst}
 use mathlib.Core.Logic.{_⊎_, inl, inr}
 use mathlib.Core.Bool.{Bool, true, false}
-use Prim.Native.Nat.{ℕ, suc, _+_, _-_, _*_, _^_, _≤_, _<_}
+use Prim.Native.Nat.{ℕ, suc, _+_, _*_, _^_, _≤_, _<_}
 use native.Mathlib.Nat.{le-trans, le-of-eq, le-of-lt, lt-of-le-of-lt, mul-assoc, mul-pos, mul-le-mul, mul-le-mul-right}
 use native.Mathlib.Omega.{arith}
-use lib.Dec.{T, lit≤, lit<}
+use lib.Dec.{lit≤, lit<}
 use lib.Pow.{pow-pos}
-use lib.Ieee.{Float, nan, inf, fin, binary64, round, ofBits, unlike}
+use lib.Ieee.{Float, binary64, round, ofBits, unlike}
 use lib.Ieee.Exact.{HasValue}
-use lib.Ieee.Scale.{grid, finite, round-under}
-use Rattle.laws.specs.Arithmetic.{_⊕_, _⊖_, _⊗_, float, dec, 1·0, 2·0}
+use lib.Ieee.Scale.{grid, round-under}
+use Rattle.laws.specs.Arithmetic.{_⊕_, _⊖_, _⊗_, float, dec, 1·0}
 use Rattle.laws.specs.Flags.{fails}
 use Rattle.laws.specs.Rounding.{round-value}
 use Rattle.floor.specs.Fused.{fusedOf}
@@ -22,27 +22,14 @@ use Rattle.legendre.specs.Ellipk.{kFromOf}
 use Rattle.legendre.specs.Ellipe.{startOf, nextOf, goesOn, lastSumsOf, eFromOf}
 use Rattle.legendre.specs.declared.k.Means.{Means}
 use Rattle.legendre.specs.declared.e.Sums.{Sums}
-use Rattle.legendre.specs.Operations.{apart, summed}
+use Rattle.legendre.specs.Operations.{gap, gap-most, apart, summed}
 use Rattle.legendre.specs.Beneath.{magnitude-value}
-use Rattle.legendre.specs.Sizes.{units-same, units-lt, grid-mono}
+use Rattle.legendre.specs.Sizes.{finite-of, units-same, units-lt, grid-mono}
 use Rattle.legendre.specs.Bounds.{Small, Within, small, wider, looser, add-plain, small-round, small-mul, small-sub, small-neg, small-div, within-add, within-mul}
-use Rattle.legendre.specs.Rounds.{one, one-value, arithmetic-within, geometric-within, add-one-unit, add-one-most, first-arithmetic, first-geometric, run-keeps, run-grows}
+use Rattle.legendre.specs.Rounds.{one, one-value, two, arithmetic-within, geometric-within, add-one-unit, add-one-most, first-arithmetic, first-geometric, run-keeps, run-grows}
 use Rattle.legendre.specs.Closing.{pi, k-small}
 
 -- ---- sum and difference of two positive numbers
-finite-of : (x : Float) (s : Bool) (a c : ℕ) → HasValue x s a c → T (finite x)
-finite-of nan s a c h = absurd h
-finite-of (inf t) s a c h = absurd h
-finite-of (fin t m e) s a c h = tt
-
-gap : (d a b : ℕ) → (d + b ≡ a) ⊎ (d + a ≡ b) → d ≤ a + b
-gap d a b (inl e) = omega arith
-gap d a b (inr e) = omega arith
-
-gap-most : (d a b p : ℕ) → (d + b ≡ a) ⊎ (d + a ≡ b) → a ≤ p → b ≤ p → d ≤ p
-gap-most d a b p (inl e) h k = omega arith
-gap-most d a b p (inr e) h k = omega arith
-
 pub difference-small : {i j : ℕ} {x y : Float} → j < 2098 → Within i j x → Within i j y → Small j (x ⊖ y)
 difference-small {i} {j} {x} {y} J v w =
     let z = apart binary64 x y (v .units) (w .units) (2 ^ 1074) (pow-pos 1074) (v .value) (w .value) in
@@ -85,14 +72,10 @@ pub record Terms (n : ℕ) (s : Sums) : Type 0 where
   pub compensation : Small n (s .compensation)
   pub power : Small n (s .power)
 
-two : Small 1075 2·0
-unfolding ofBits
-two = record { sign = false; units = 2 ^ 1075; value = (refl, refl); most = lit≤ tt }
-
 pub next-terms : (n : ℕ) (s : Sums) → 1074 ≤ n → n + 7 < 2098 → Small 1074 (arithmeticOf (s .x) (s .y)) → Small 1074 (geometricOf (s .x) (s .y)) → Terms n s → Terms (n + 7) (nextOf s)
 unfolding nextOf
 next-terms n s N L x y t =
-    let power = small-mul (n + 1) (omega arith) (omega arith) (t .power) two in
+    let power = small-mul (n + 1) (omega arith) (omega arith) (t .power) (small two) in
     let d = small-sub {j = 1074} (lit< tt) x y in
     let once = small-mul (n + 2) (omega arith) (omega arith) power d in
     let term = small-mul (n + 3) (omega arith) (omega arith) once d in

@@ -2,7 +2,7 @@
 use mathlib.Core.Path.{_≡_, sym, ap, _∙_, subst}
 use mathlib.Core.Logic.{_⊎_, inl, inr}
 use mathlib.Core.Bool.{Bool, true, false, not, _&&_, _||_, true≢false}
-use Prim.Native.Nat.{ℕ, _-_, _*_, _^_, _≤_, _<_}
+use Prim.Native.Nat.{ℕ, _*_, _^_, _≤_, _<_}
 use native.Mathlib.Nat.{le-trans, le-of-eq, le-of-lt, lt-of-le-of-lt, one-mul, mul-le-mul-right, le-of-mul-le-mul-right}
 use native.Mathlib.Omega.{arith}
 use lib.Dec.{T, ltb, leb, eqb, ltb→lt, nltb→le, leb→le, eqb→eq, lit<}
@@ -77,7 +77,7 @@ grid-mono a c b d C D h o = go (ltb (grid binary64 a c) (overflow binary64)) (lt
         absurd (no-more (round binary64 false b d) (grid binary64 b d) (2 ^ 1074) v
         (subst (λ (z : Float). T (le z (round binary64 false b d))) (round-is binary64 false a c ∙ units-over binary64 false (kept 53 (a * 2 ^ 1074) c) (drop 53 (a * 2 ^ 1074) c) (q tt)) t))
 
-finite-of : (x : Float) (s : Bool) (a c : ℕ) → HasValue x s a c → T (finite x)
+pub finite-of : (x : Float) (s : Bool) (a c : ℕ) → HasValue x s a c → T (finite x)
 finite-of nan s a c h = absurd h
 finite-of (inf t) s a c h = absurd h
 finite-of (fin t m e) s a c h = tt

@@ -2,12 +2,12 @@
 use mathlib.Core.Path.{_≡_, refl, sym, ap, _∙_, subst}
 use mathlib.Core.Bool.{Bool, true, false, not, cond, _&&_, true≢false}
 use Prim.Native.Nat.{ℕ, zero, suc, _+_, _-_, _*_, _%_, _^_, _≤_, _<_}
-use native.Mathlib.Nat.{le-trans, le-of-eq, le-of-lt, lt-of-le-of-lt, lt-of-lt-of-le, lt-of-mul-lt-mul-right, not-le-of-lt, mul-one, one-mul, zero-mul, mul-assoc, mul-comm, mul-pos, mul-le-mul, mul-le-mul-left, mul-le-mul-right, add-comm}
+use native.Mathlib.Nat.{le-trans, le-of-eq, le-of-lt, lt-of-le-of-lt, lt-of-lt-of-le, lt-of-mul-lt-mul-right, not-le-of-lt, mul-one, zero-mul, mul-assoc, mul-pos, mul-le-mul, mul-le-mul-left, mul-le-mul-right, add-comm}
 use native.Mathlib.Omega.{arith}
 use lib.IntN.{ℤ, pos, negsuc}
 use lib.Dec.{T, ltb, leb, eqb, ltb→lt, leb→le, nleb→lt, lit≤, lit<}
-use lib.Pow.{pow-add, pow-pos, pow-mono}
-use lib.Ieee.{Float, nan, inf, fin, binary64, up, down, fits, round, sum, le, unlike, size}
+use lib.Pow.{pow-pos, pow-mono}
+use lib.Ieee.{Float, nan, inf, fin, binary64, up, down, fits, round, sum, size}
 use lib.Ieee.Exact.{HasValue}
 use lib.Ieee.Fits.{down-pos, and-l, and-r}
 use lib.Ieee.Scale.{grid, overflow}
@@ -16,10 +16,11 @@ use Rattle.laws.specs.Exact.{round-of-value}
 use Rattle.laws.specs.Flags.{fails}
 use Rattle.laws.specs.Rounding.{round-value}
 use Rattle.floor.specs.Root.{rootOf}
+use Rattle.legendre.specs.Beneath.{split}
 use Rattle.legendre.specs.Places.{Negative, Unit}
 use Rattle.legendre.specs.Operations.{sub-is, div-is}
 use Rattle.legendre.specs.Sizes.{units-same, units-lt, grid-mono, grid-most, grid-least, below-overflow}
-use Rattle.legendre.specs.Bounds.{Small, Within, looser, within-round, within-root, within-div, small-round}
+use Rattle.legendre.specs.Bounds.{Within, looser, within-round, within-root, within-div}
 use Rattle.legendre.specs.Rounds.{one, one-value}
 
 -- ---- 1 - m for 0 ≤ m < 1
@@ -69,9 +70,6 @@ large-most M j P Q N q s h e =
     let a : i < P = lt-of-mul-lt-mul-right Q (lt-of-le-of-lt (le-of-eq (sym t)) h) in
     let b : (i + 1) * Q ≤ P * Q = mul-le-mul-right Q (let z : i + 1 ≤ P = omega arith in z) in
     omega arith
-
-split : (k j : ℕ) → k ≤ j → 2 ^ j ≡ 2 ^ (j - k) * 2 ^ k
-split k j h = ap (λ (z : ℕ). 2 ^ z) (let e : j ≡ j - k + k = omega arith in e) ∙ pow-add 2 (j - k) k
 
 most : ℕ
 most = (2 ^ 53 - 1) * 2 ^ 2045

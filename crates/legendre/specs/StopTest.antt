@@ -3,11 +3,11 @@ use mathlib.Core.Path.{_≡_, refl, sym, ap, _∙_, subst}
 use mathlib.Core.Logic.{_⊎_, inl, inr}
 use mathlib.Core.Bool.{Bool, true, false, not, _&&_}
 use Prim.Native.Nat.{ℕ, _+_, _-_, _*_, _^_, _≤_, _<_}
-use native.Mathlib.Nat.{mul-add, mul-assoc, mul-comm, mul-left-comm, mul-pos, one-mul, le-trans, le-of-eq, lt-of-lt-of-le, lt-of-le-of-lt, not-le-of-lt, mul-le-mul, mul-le-mul-left, mul-le-mul-right, le-of-mul-le-mul-left, le-of-mul-le-mul-right, lt-of-mul-lt-mul-left}
+use native.Mathlib.Nat.{mul-add, mul-assoc, mul-comm, mul-left-comm, mul-pos, le-trans, le-of-eq, lt-of-lt-of-le, not-le-of-lt, mul-le-mul-left, mul-le-mul-right, le-of-mul-le-mul-right, lt-of-mul-lt-mul-left}
 use native.Mathlib.Omega.{arith}
 use lib.Dec.{T, leb, ltb, leb→le, nleb→lt, ltb→lt, not-T, lit≤, lit<}
 use lib.Pow.{pow-pos}
-use lib.Ieee.{Float, binary64, round, le, ofBits, mul}
+use lib.Ieee.{Float, binary64, ofBits, mul}
 use lib.Ieee.Exact.{HasValue}
 use lib.Ieee.Fits.{and-l, and-r}
 use lib.Ieee.Scale.{grid, normal-of-rounded}
@@ -16,10 +16,9 @@ use Rattle.laws.specs.Rounding.{grid-near, round-value}
 use Rattle.floor.specs.Whole.{magnitudeOf}
 use Rattle.legendre.specs.Mean.{goesOnOf}
 use Rattle.legendre.specs.Ellipe.{eTolerance}
-use Rattle.legendre.specs.Operations.{mul-is, Apart, apart}
+use Rattle.legendre.specs.Operations.{mul-is, gap-most, apart}
 use Rattle.legendre.specs.Beneath.{magnitude-value}
 use Rattle.legendre.specs.Sizes.{units-le, grid-most, below-overflow}
-use Rattle.legendre.specs.Bounds.{Within}
 use Rattle.legendre.specs.Ratios.{near-hi, cancel}
 use Rattle.legendre.specs.MeanRound.{Rounded, rounded, State}
 
@@ -92,10 +91,6 @@ less Z W C E L D G a d g h p q r u v =
 
 cancel-lo : (Z W n h E U : ℕ) → 0 < U → Z * (n * U) ≤ W * (h * (E * U)) → Z * n ≤ W * (h * E)
 cancel-lo Z W n h E U k p = let q : Z * n * U ≤ W * (h * E) * U = omega arith in le-of-mul-le-mul-right q k
-
-gap-most : (d a b p : ℕ) → (d + b ≡ a) ⊎ (d + a ≡ b) → a ≤ p → b ≤ p → d ≤ p
-gap-most d a b p (inl e) h k = omega arith
-gap-most d a b p (inr e) h k = omega arith
 
 -- ---- the test at the ratio 1 + G / D
 unfoldable pub near : ℕ → ℕ → Bool

@@ -1,30 +1,29 @@
--- What the three functions hand out, for every f64: refusal 1 exactly for NaN and 2 exactly for m > 1, never a NaN, f64 values only, and a single value is finite. Assumes nothing.
-use mathlib.Core.Path.{_≡_, refl, sym, ap, _∙_, subst}
-use mathlib.Core.Bool.{Bool, true, false, not, cond}
+-- The three functions keep Promises.antt. Assumes nothing.
+use mathlib.Core.Path.{_≡_, refl, sym, subst}
+use mathlib.Core.Bool.{Bool, true, false, cond}
 use mathlib.Core.List.{List, [], _∷_}
-use Prim.Native.Nat.{ℕ, zero, suc, _+_, _*_, _^_, _≤_, _<_}
-use lib.Dec.{T, ltb, leb, eqb, ltb→lt, leb→le, lit≤, lit<}
-use lib.Pow.{pow-pos}
-use lib.Ieee.{Float, nan, inf, fin, binary64, isNan, fits, ofBits, lt, le, ne, eq}
+use Prim.Native.Nat.{ℕ, _^_, _<_}
+use lib.Dec.{T, eqb, lit≤, lit<}
+use lib.Ieee.{Float, nan, inf, fin, binary64, isNan, fits, ofBits}
 use lib.Ieee.Bits.{ofBits-fits}
-use lib.Ieee.Exact.{HasValue}
-use lib.Ieee.Fits.{add-fits, mul-fits, div-fits, cond-fits, inf-fits}
+use lib.Ieee.Fits.{add-fits, mul-fits, div-fits, cond-fits}
 use lib.Ieee.Scale.{finite}
-use lib.ListN.{length, getD}
-use Rattle.laws.specs.Arithmetic.{_⊕_, _⊖_, _⊗_, _⊘_, _<·_, _≤·_, _=·_, _≠·_, dec, +0, +∞, -∞, ½, 1·0, 2·0, 4·0}
-use Rattle.laws.specs.Ladder.{when_gives_else_}
+use lib.ListN.{length}
+use Rattle.laws.specs.Arithmetic.{_⊖_, _⊗_, _⊘_, _<·_, _≤·_, _=·_, _≠·_, dec, +0, +∞, -∞, ½, 1·0, 4·0}
 use Rattle.floor.specs.Root.{rootOf}
 use Rattle.answer.specs.Answer.{refusalOf}
 use Rattle.answer.specs.Sound.{Number, Value, Sound, number-value}
 use Rattle.answer.specs.declared.Answer.{Answer}
-use Rattle.answer.specs.declared.Answer.the-variants.{One, Pair, Infinite, Refused}
+use Rattle.answer.specs.declared.Answer.the-variants.{Refused}
 use Rattle.legendre.specs.declared.ke.Both.{Both}
 use Rattle.legendre.specs.Domain.{byDomain}
 use Rattle.legendre.specs.Piece.{pieceOf, centreOf, kPieceOf, ePieceOf}
 use Rattle.legendre.specs.Polyeval.{pairedOf, hornerOf, polyevalOf}
 use Rattle.legendre.specs.Ellipk.{kFromOf, kMeanOf, kBelowOneOf, ellipkOf}
-use Rattle.legendre.specs.Ellipe.{√ε, eTolerance, lnOf, nearOneOf, eFromOf, lastSumsOf, eMeanOf, eBelowOneOf, eNegativeOf, ellipeWithin, ellipeOf}
-use Rattle.legendre.specs.Ellipke.{bothMeanOf, bothBelowOneOf, scaledOf, bothNegativeOf, pairOf, ellipkeOf}
+use Rattle.legendre.specs.Ellipe.{√ε, eTolerance, nearOneOf, eFromOf, lastSumsOf, eMeanOf, eBelowOneOf, eNegativeOf, ellipeWithin, ellipeOf}
+use Rattle.legendre.specs.Ellipke.{bothMeanOf, bothPieceOf, bothBelowOneOf, scaledOf, bothNegativeOf, pairOf, ellipkeOf}
+use Rattle.legendre.specs.Promises.{refusedOf, Answers}
+use Rattle.legendre.specs.Decided.{below}
 use Rattle.legendre.specs.Places.{Negative, Unit, Place, refused-1, refused-2, one, lowest, negative, unit, place}
 use Rattle.legendre.specs.Bounds.{Small, Within, small, wider, looser, small-mul, small-div, small-add, small-sub}
 use Rattle.legendre.specs.Rounds as rounds
@@ -33,11 +32,7 @@ use Rattle.legendre.specs.Polynomials.{k-piece-small, e-piece-small, del
 use Rattle.legendre.specs.Running.{last-sums-ended, last-means-k}
 use Rattle.legendre.specs.Logarithms.{ln-small}
 
--- 1 for NaN, 2 above 1, and 0 where there is an answer
-unfoldable pub refusedOf : Float → ℕ
-refusedOf m = when m ≠· m gives 1 else when 1·0 <· m gives 2 else 0
-
--- ---- small values are finite
+-- ---- small values are finite, and no NaN
 pub of-small : (j : ℕ) (x : Float) → Small j x → T (finite x)
 of-small j nan s = absurd (s .value)
 of-small j (inf t) s = absurd (s .value)
@@ -85,26 +80,22 @@ k-mean : {y0 : Float} → Within 537 1586 y0 → Fine 1345 (kMeanOf y0)
 unfolding kMeanOf
 k-mean {y0} w = record { size = last-means-k y0 w; fit = from-fits _ _ }
 
+k-piece : (m : Float) → Unit m → pieceOf m < 10 → Fine 1345 (kPieceOf (pieceOf m) (m ⊖ centreOf (pieceOf m)))
+k-piece m u h = record { size = wider 1345 (lit≤ tt) (k-piece-small (m ⊖ centreOf (pieceOf m)) (delta-small (pieceOf m) h u) (pieceOf m)); fit = unfold kPieceOf in poly-fits _ _ }
+
 k-below : (m : Float) → Unit m → Fine 1345 (kBelowOneOf m)
 unfolding kBelowOneOf
-k-below m u = go (ltb (pieceOf m) 10) (ltb→lt (pieceOf m) 10)
-  where
-    go : (b : Bool) → (T b → pieceOf m < 10) → Fine 1345 (cond b (kPieceOf (pieceOf m) (m ⊖ centreOf (pieceOf m))) (kMeanOf (rootOf (1·0 ⊖ m))))
-    go true h = record { size = wider 1345 (lit≤ tt) (k-piece-small (m ⊖ centreOf (pieceOf m)) (delta-small (pieceOf m) (h tt) u) (pieceOf m)); fit = unfold kPieceOf in poly-fits _ _ }
-    go false h = k-mean (looser 537 1586 (lit≤ tt) (lit≤ tt) (unit-start u))
+k-below m u = below kPieceOf kMeanOf m (Fine 1345) (k-piece m u) (k-mean (looser 537 1586 (lit≤ tt) (lit≤ tt) (unit-start u)))
 
 near-one : {y0 : Float} → Within 537 1074 y0 → Fine 1569 (nearOneOf y0)
 unfolding nearOneOf
 near-one {y0} w =
-    let square = small-div 1073 (lit< tt) (lit≤ tt) (small-mul 1074 (lit< tt) (lit≤ tt) (small w) (small w)) two in
+    let square = small-div 1073 (lit< tt) (lit≤ tt) (small-mul 1074 (lit< tt) (lit≤ tt) (small w) (small w)) rounds.two in
     let logs = small-sub (lit< tt) (ln-small 4·0 (lit≤ tt) four) (ln-small y0 (lit≤ tt) w) in
     let factor = small-sub (lit< tt) logs (wider 1091 (lit≤ tt) half) in
     let term = small-mul 1091 (lit< tt) (lit≤ tt) square factor in
     record { size = wider 1569 (lit≤ tt) (small-add (lit< tt) (wider 1091 (lit≤ tt) (small rounds.one)) term); fit = add-fits binary64 _ _ }
   where
-    two : Within 1075 1075 2·0
-    two = unfold ofBits in record { units = 2 ^ 1075; value = (refl, refl); least = lit≤ tt; most = lit≤ tt }
-
     four : Within 1076 1076 4·0
     four = unfold ofBits in record { units = 2 ^ 1076; value = (refl, refl); least = lit≤ tt; most = lit≤ tt }
 
@@ -119,13 +110,12 @@ e-mean {y0} w = go (y0 ≤· √ε)
     go true = near-one w
     go false = record { size = last-sums-ended eTolerance y0 w .e; fit = unfold eFromOf in mul-fits binary64 _ _ }
 
+e-piece : (m : Float) → Unit m → pieceOf m < 10 → Fine 1569 (ePieceOf (pieceOf m) (m ⊖ centreOf (pieceOf m)))
+e-piece m u h = record { size = wider 1569 (lit≤ tt) (e-piece-small (m ⊖ centreOf (pieceOf m)) (delta-small (pieceOf m) h u) (pieceOf m)); fit = unfold ePieceOf in poly-fits _ _ }
+
 e-below : (m : Float) → Unit m → Fine 1569 (eBelowOneOf 32 m)
 unfolding eBelowOneOf
-e-below m u = go (ltb (pieceOf m) 10) (ltb→lt (pieceOf m) 10)
-  where
-    go : (b : Bool) → (T b → pieceOf m < 10) → Fine 1569 (cond b (ePieceOf (pieceOf m) (m ⊖ centreOf (pieceOf m))) (eMeanOf 32 (rootOf (1·0 ⊖ m))))
-    go true h = record { size = wider 1569 (lit≤ tt) (e-piece-small (m ⊖ centreOf (pieceOf m)) (delta-small (pieceOf m) (h tt) u) (pieceOf m)); fit = unfold ePieceOf in poly-fits _ _ }
-    go false h = e-mean (unit-start u)
+e-below m u = below ePieceOf (eMeanOf 32) m (Fine 1569) (e-piece m u) (e-mean (unit-start u))
 
 record FineBoth (b : Both) : Type 0 where
   k : Fine 1345 (b .k)
@@ -142,19 +132,8 @@ both-mean {y0} w =
     go false h = record { size = h; fit = unfold eFromOf in mul-fits binary64 _ _ }
 
 both-below : (m : Float) → Unit m → FineBoth (bothBelowOneOf m)
-unfolding bothBelowOneOf
-both-below m u = go (ltb (pieceOf m) 10) (ltb→lt (pieceOf m) 10)
-  where
-    delta : Float
-    delta = m ⊖ centreOf (pieceOf m)
-
-    go : (b : Bool) → (T b → pieceOf m < 10) → FineBoth (cond b (record { k = kPieceOf (pieceOf m) (m ⊖ centreOf (pieceOf m)); e = ePieceOf (pieceOf m) (m ⊖ centreOf (pieceOf m)) }) (bothMeanOf (rootOf (1·0 ⊖ m))))
-    go true h =
-        record {
-          k = record { size = wider 1345 (lit≤ tt) (k-piece-small (m ⊖ centreOf (pieceOf m)) (delta-small (pieceOf m) (h tt) u) (pieceOf m)); fit = unfold kPieceOf in poly-fits _ _ };
-          e = record { size = wider 1569 (lit≤ tt) (e-piece-small (m ⊖ centreOf (pieceOf m)) (delta-small (pieceOf m) (h tt) u) (pieceOf m)); fit = unfold ePieceOf in poly-fits _ _ };
-        }
-    go false h = both-mean (unit-start u)
+unfolding bothBelowOneOf bothPieceOf
+both-below m u = below bothPieceOf bothMeanOf m FineBoth (λ h. record { k = k-piece m u h; e = e-piece m u h }) (both-mean (unit-start u))
 
 -- ---- below 0
 module _ (m : Float) (n : Negative m) where
@@ -213,11 +192,6 @@ refusal-domain m a b c d p q r s = go (m ≠· m) (1·0 <· m) (m =· 1·0) (m =
     go false false false true x = q
     go false false false false true = r
     go false false false false false = s
-
--- what is promised of each function
-pub record Answers (f : Float → Answer) : Type 0 where
-  pub refusal : (m : Float) → refusalOf (f m) ≡ refusedOf m
-  pub sound : (m : Float) → T (fits binary64 m) → Sound (f m)
 
 pub ellipk-answers : Answers ellipkOf
 unfolding ellipkOf Sound refusalOf

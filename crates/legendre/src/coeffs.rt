@@ -1,7 +1,11 @@
 // The coefficients of K and E (coeffs.rs): a row for each piece, padded with zeros to one length, its own length beside it.
 use crate::polyeval::polyeval;
 ghost use mathlib.Core.Path.{_≡_};
+ghost use mathlib.Core.List.{[], _++_};
 ghost use Prim.Native.Nat.{_<_};
+ghost use lib.ListN.{getD};
+ghost use Rattle.legendre.specs.Coeffs.{kRows, eRows};
+ghost use Rattle.legendre.specs.Polyeval.{polyevalOf};
 ghost use Rattle.legendre.specs.Piece.{pieceOf, centreOf, kPieceOf, ePieceOf};
 
 const K: [[f64; 20]; 10] = [
@@ -478,16 +482,50 @@ pub(crate) fn centre(i: usize) -> f64
     CENTRES[i]
 }
 
+// The polynomial of a row: the rows of K are counted from 0, those of E from 10. With a constant index in each arm the compiler writes the row's
+// numbers into the arm; an index that is only known at the call would have the whole table written to the stack.
+fn by_row(row: usize, delta: f64) -> f64
+    requires { ⌜ row < 20 ⌝ }
+    ensures { λ r. ⌜ r ≡ polyevalOf delta (getD (kRows ++ eRows) row []) ⌝ }
+{
+    let k = K;
+    let k_lengths = K_LENGTHS;
+    let e = E;
+    let e_lengths = E_LENGTHS;
+    match row {
+        0 => polyeval(delta, &k[0], k_lengths[0]),
+        1 => polyeval(delta, &k[1], k_lengths[1]),
+        2 => polyeval(delta, &k[2], k_lengths[2]),
+        3 => polyeval(delta, &k[3], k_lengths[3]),
+        4 => polyeval(delta, &k[4], k_lengths[4]),
+        5 => polyeval(delta, &k[5], k_lengths[5]),
+        6 => polyeval(delta, &k[6], k_lengths[6]),
+        7 => polyeval(delta, &k[7], k_lengths[7]),
+        8 => polyeval(delta, &k[8], k_lengths[8]),
+        9 => polyeval(delta, &k[9], k_lengths[9]),
+        10 => polyeval(delta, &e[0], e_lengths[0]),
+        11 => polyeval(delta, &e[1], e_lengths[1]),
+        12 => polyeval(delta, &e[2], e_lengths[2]),
+        13 => polyeval(delta, &e[3], e_lengths[3]),
+        14 => polyeval(delta, &e[4], e_lengths[4]),
+        15 => polyeval(delta, &e[5], e_lengths[5]),
+        16 => polyeval(delta, &e[6], e_lengths[6]),
+        17 => polyeval(delta, &e[7], e_lengths[7]),
+        18 => polyeval(delta, &e[8], e_lengths[8]),
+        _ => polyeval(delta, &e[9], e_lengths[9]),
+    }
+}
+
 pub(crate) fn k_piece(i: usize, delta: f64) -> f64
     requires { ⌜ i < 10 ⌝ }
     ensures { λ r. ⌜ r ≡ kPieceOf i delta ⌝ }
 {
-    polyeval(delta, &K[i], K_LENGTHS[i])
+    by_row(i, delta)
 }
 
 pub(crate) fn e_piece(i: usize, delta: f64) -> f64
     requires { ⌜ i < 10 ⌝ }
     ensures { λ r. ⌜ r ≡ ePieceOf i delta ⌝ }
 {
-    polyeval(delta, &E[i], E_LENGTHS[i])
+    by_row(10 + i, delta)
 }

@@ -1,4 +1,4 @@
-// E(m), the complete elliptic integral of the second kind (ellipe.rs; DLMF 19.2.8). m ≤ 1: E(1) = 1, E(-∞) = ∞; m > 1 is refusal 2.
+// E below 1 (ellipe.rs): by its piece, or by the mean with the sum of the squared differences (DLMF 19.8.6).
 use crate::EPSILON;
 use crate::PI;
 use crate::ROOT_EPSILON;
@@ -53,6 +53,7 @@ impl Sums {
     }
 }
 
+// The file's `while` has no bound; from 8 rounds on none shows (`ellipe-ends`).
 pub(crate) fn last_sums(tolerance: f64, y0: f64) -> Sums
     ensures { λ r. ⌜ r ≡ lastSumsOf 32 tolerance y0 ⌝ }
 {

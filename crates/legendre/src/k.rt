@@ -1,4 +1,4 @@
-// K(m), the complete elliptic integral of the first kind (ellipk.rs; DLMF 19.2.8). m ≤ 1: K(1) = ∞, K(-∞) = 0; m > 1 is refusal 2.
+// K below 1 (ellipk.rs): by its piece, or by the arithmetic-geometric mean (DLMF 19.8.5), whose steps e.rt shares.
 use crate::PI;
 use crate::coeffs::centre;
 use crate::coeffs::k_piece;

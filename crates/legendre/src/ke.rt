@@ -1,4 +1,4 @@
-// K(m) and E(m) together (ellipke.rs): a Pair always, (∞, 1) at m = 1 and (0, ∞) at -∞; m > 1 is refusal 2.
+// K and E together below 1 (ellipke.rs): one run of the mean for both.
 use crate::ROOT_EPSILON;
 use crate::coeffs::centre;
 use crate::coeffs::e_piece;
@@ -20,10 +20,9 @@ pub(crate) struct Both {
 fn both_mean(y0: f64) -> Both
     ensures { λ r. ⌜ r ≡ bothMeanOf y0 ⌝ }
 {
-    let tolerance = ROOT_EPSILON;
-    let s = last_sums(tolerance, y0);
+    let s = last_sums(ROOT_EPSILON, y0);
     let k = k_from(s.x, s.y);
-    if y0 <= tolerance {
+    if y0 <= ROOT_EPSILON {
         return Both {
             k: k,
             e: near_one(y0),

@@ -1,58 +1,23 @@
-use Rattle.legendre.specs.Decided.{at-nan, over, at-one, at-minus-infinity, where-negative, below-one}
-use lib.Ieee.{nanBits, ofBits}
-use Rattle.legendre.specs.Ellipk.{ellipkOf}
+-- Down the tests of `byDomain` (Decided.antt), one for each return.
 use borrow.Author.Needs.{needs}
+use lib.Ieee.{nanBits}
+use Rattle.legendre.specs.Decided.{at-nan, over, at-one, at-minus-infinity, where-negative, below-one}
+use Rattle.legendre.specs.Ellipk.{ellipkOf}
 use Rattle.legendre.proofs.ellipk.Statement.{statement}
 use Rattle.legendre.proofs.ellipk.Tie as tie
 
-returns : tie.Need-returns
-unfolding ellipkOf
-returns c = at-nan _ _ _ _ _ (c .if1 .taken)
-
-returns-2 : tie.Need-returns-2
-unfolding ellipkOf
-returns-2 c = over _ _ _ _ _ (c .before .if1 .left) (c .if2 .taken)
-
-returns-3 : tie.Need-returns-3
-unfolding ellipkOf
-returns-3 c = at-one _ _ _ _ _ (c .before .before .if1 .left) (c .before .if2 .left) (c .if3 .taken)
-
-float-from-bits-if4 : tie.Need-float-from-bits-if4
-unfolding nanBits
-float-from-bits-if4 c = tt
-
-returns-4 : tie.Need-returns-4
-unfolding ellipkOf
-returns-4 c = at-minus-infinity _ _ _ _ _ (c .before .before .before .if1 .left) (c .before .before .if2 .left) (c .before .if3 .left) (c .if4 .taken)
-
-root-requires : tie.Need-root-requires
-root-requires c κs = search needs
-
-k-mean-requires : tie.Need-k-mean-requires
-k-mean-requires c κs = search needs
-
-returns-5 : tie.Need-returns-5
-unfolding ellipkOf
-returns-5 c = where-negative _ _ _ _ _ _ (c .before .before .before .before .before .before .if1 .left) (c .before .before .before .before .before .if2 .left) (c .before .before .before .before .if3 .left) (c .before .before .before .if4 .left) (c .before .before .if5 .taken) (rw (c .k-mean .ensures, c .before .root .ensures))
-
-k-below-one-requires : tie.Need-k-below-one-requires
-k-below-one-requires c κs = search needs
-
-returns-6 : tie.Need-returns-6
-unfolding ellipkOf
-returns-6 c = below-one _ _ _ _ _ _ (c .before .before .before .before .before .if1 .left) (c .before .before .before .before .if2 .left) (c .before .before .before .if3 .left) (c .before .before .if4 .left) (c .before .if5 .left) (rw (c .k-below-one .ensures))
-
 pub ellipk-spec : {M : Type 1} → statement M
+unfolding ellipkOf nanBits
 ellipk-spec =
     tie.close
     (tie.spec
-    returns
-    returns-2
-    returns-3
-    float-from-bits-if4
-    returns-4
-    root-requires
-    k-mean-requires
-    returns-5
-    k-below-one-requires
-    returns-6)
+    (λ c. at-nan _ _ _ _ _ (c .if1 .taken))
+    (λ c. over _ _ _ _ _ (c .before .if1 .left) (c .if2 .taken))
+    (λ c. at-one _ _ _ _ _ (c .before .before .if1 .left) (c .before .if2 .left) (c .if3 .taken))
+    (λ c. tt)
+    (λ c. at-minus-infinity _ _ _ _ _ (c .before .before .before .if1 .left) (c .before .before .if2 .left) (c .before .if3 .left) (c .if4 .taken))
+    (λ c κs. search needs)
+    (λ c κs. search needs)
+    (λ c. where-negative _ _ _ _ _ _ (c .before .before .before .before .before .before .if1 .left) (c .before .before .before .before .before .if2 .left) (c .before .before .before .before .if3 .left) (c .before .before .before .if4 .left) (c .before .before .if5 .taken) (rw (c .k-mean .ensures, c .before .root .ensures)))
+    (λ c κs. search needs)
+    (λ c. below-one _ _ _ _ _ _ (c .before .before .before .before .before .if1 .left) (c .before .before .before .before .if2 .left) (c .before .before .before .if3 .left) (c .before .before .if4 .left) (c .before .if5 .left) (rw (c .k-below-one .ensures))))

@@ -21,7 +21,7 @@ rounded-requires c κs = search needs
 
 returns : tie.Need-returns
 returns c =
-    let d = c .before .before .before in
+    let d = c .before .before .before .before in
     let a = d .before in
     let r = d .digits .result in
     let b = root-bounds (a .aligned .result .digits) (r .root) (r .rest) (a .aligned .ensures .least) (a .aligned .ensures .most) (d .digits .ensures) in

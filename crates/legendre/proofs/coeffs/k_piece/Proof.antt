@@ -1,41 +1,17 @@
-use mathlib.Core.Path.{_∙_, ap}
-use lib.Ieee.{ofBits, neg}
-use Rattle.laws.specs.Arithmetic.{dec}
-use Rattle.legendre.specs.Coeffs.{kRows}
+-- The rows of K come first.
+use mathlib.Core.Path.{ap, _∙_}
+use borrow.Author.Needs.{needs}
+use lib.ListN.{List·getD-append}
+use Rattle.legendre.specs.Coeffs.{kRows, eRows}
 use Rattle.legendre.specs.Polyeval.{polyevalOf}
 use Rattle.legendre.specs.Piece.{kPieceOf}
-use Rattle.legendre.proofs.Rows.{row-of, holds, short}
-use borrow.Author.Needs.{needs}
 use Rattle.legendre.proofs.coeffs.k_piece.Statement.{statement}
 use Rattle.legendre.proofs.coeffs.k_piece.Tie as tie
 
-mul-polyeval : tie.Need-mul-polyeval
-mul-polyeval c = search needs
-
-index-1-polyeval : tie.Need-index-1-polyeval
-index-1-polyeval c = search needs
-
-mul-polyeval-2 : tie.Need-mul-polyeval-2
-mul-polyeval-2 c = search needs
-
-array-read-polyeval : tie.Need-array-read-polyeval
-array-read-polyeval c = search needs
-
-polyeval-requires : tie.Need-polyeval-requires
-unfolding kRows dec ofBits neg
-polyeval-requires c κs = (short kRows tt (c .before .args .i), holds kRows (c .before .args .i))
-
-returns : tie.Need-returns
-unfolding kPieceOf kRows dec ofBits neg
-returns c = c .polyeval .ensures ∙ ap (polyevalOf (c .before .before .args .delta)) (row-of kRows (c .before .before .args .i))
-
 pub k-piece-spec : {M : Type 1} → statement M
+unfolding kPieceOf kRows
 k-piece-spec =
     tie.close
     (tie.spec
-    mul-polyeval
-    index-1-polyeval
-    mul-polyeval-2
-    array-read-polyeval
-    polyeval-requires
-    returns)
+    (λ c κs. search needs)
+    (λ c. c .by-row .ensures ∙ ap (polyevalOf (c .before .args .delta)) (List·getD-append kRows eRows _ (c .before .args .i) (c .before .pre))))

@@ -1,7 +1,7 @@
 -- Below 18 a product is in range to be cut to a u64.
 use mathlib.Core.Path.{_≡_, sym, subst}
 use mathlib.Core.Bool.{true, false, _&&_}
-use Prim.Native.Nat.{ℕ, _+_, _*_, _^_, _<_}
+use Prim.Native.Nat.{_+_, _*_, _^_}
 use native.Mathlib.Omega.{arith}
 use borrow.Author.Needs.{needs}
 use borrow.Author.Tests.{lt-ltb, le-ltb}
@@ -26,25 +26,13 @@ both t e =
     let h : T (neg 1·0 <· t && t <· 18·0) = subst T (sym e) tt in
     (and-l (neg 1·0 <· t) (t <· 18·0) h, in-range t (and-r (neg 1·0 <· t) (t <· 18·0) h))
 
-truncating-f64-to-u64-requires : tie.Need-truncating-f64-to-u64-requires
-unfolding ofBits neg
-truncating-f64-to-u64-requires c κs = both (c .before .args .m ⊗ 20·0) (c .if1 .taken)
-
-returns : tie.Need-returns
-unfolding pieceOf truncatedOf rowOf
-returns c = simp (c .before .before .if1 .taken, ← c .before .truncating-f64-to-u64 .ensures, lt-ltb _ _ (c .if2 .taken))
-
-sub-result : tie.Need-sub-result
-sub-result c = search needs
-
-returns-2 : tie.Need-returns-2
-unfolding pieceOf truncatedOf rowOf
-returns-2 c = simp (c .before .before .if1 .taken, ← c .before .truncating-f64-to-u64 .ensures, le-ltb _ _ (c .if2 .left))
-
-returns-3 : tie.Need-returns-3
-unfolding pieceOf truncatedOf rowOf
-returns-3 c = simp (c .if1 .left)
-
 pub piece-spec : {M : Type 1} → statement M
+unfolding ofBits neg pieceOf truncatedOf rowOf
 piece-spec =
-    tie.close (tie.spec truncating-f64-to-u64-requires returns sub-result returns-2 returns-3)
+    tie.close
+    (tie.spec
+    (λ c κs. both (c .before .args .m ⊗ 20·0) (c .if1 .taken))
+    (λ c. simp (c .before .before .if1 .taken, ← c .before .truncating-f64-to-u64 .ensures, lt-ltb _ _ (c .if2 .taken)))
+    (λ c. search needs)
+    (λ c. simp (c .before .before .if1 .taken, ← c .before .truncating-f64-to-u64 .ensures, le-ltb _ _ (c .if2 .left)))
+    (λ c. simp (c .if1 .left)))

@@ -1,7 +1,6 @@
 -- The loop runs `iterated`: Iteration.antt.
-use mathlib.Core.Path.{refl, sym, _∙_}
-use native.Mathlib.Omega.{arith}
 use Prim.Native.Nat.{_-_}
+use native.Mathlib.Omega.{arith}
 use borrow.Author.Needs.{needs}
 use Rattle.legendre.specs.Ellipe.{startOf, goesOn, nextOf, lastSumsOf}
 use Rattle.legendre.proofs.Iteration.{Holds, at-start, at-next, where-met, where-spent}

@@ -1,12 +1,13 @@
+-- One straight line, computed.
 use mathlib.Core.Path.{refl}
 use lib.Ieee.{ofBits}
 use Rattle.legendre.specs.Ellipk.{kFromOf}
 use Rattle.legendre.proofs.k.k_from.Statement.{statement}
 use Rattle.legendre.proofs.k.k_from.Tie as tie
 
-returns : tie.Need-returns
-unfolding kFromOf ofBits
-returns c = refl
-
 pub k-from-spec : {M : Type 1} → statement M
-k-from-spec = tie.close (tie.spec returns)
+unfolding kFromOf ofBits
+k-from-spec =
+    tie.close
+    (tie.spec
+    (λ c. refl))

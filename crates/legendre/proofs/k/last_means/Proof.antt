@@ -1,9 +1,9 @@
 -- The loop runs `iterated`: Iteration.antt.
-use mathlib.Core.Path.{refl, sym, _∙_}
-use native.Mathlib.Omega.{arith}
+use mathlib.Core.Path.{refl}
 use Prim.Native.Nat.{_-_}
-use lib.Ieee.{ofBits}
+use native.Mathlib.Omega.{arith}
 use borrow.Author.Needs.{needs}
+use lib.Ieee.{ofBits}
 use Rattle.laws.specs.Arithmetic.{1·0, dec}
 use Rattle.legendre.specs.Ellipk.{goesOn, nextOf, lastMeansOf}
 use Rattle.legendre.proofs.Iteration.{Holds, at-start, at-next, where-met, where-spent}

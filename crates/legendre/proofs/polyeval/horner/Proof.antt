@@ -1,5 +1,5 @@
 -- The loop goes from the last coefficient to the first: `sum` is the value of those passed.
-use mathlib.Core.Path.{_≡_, refl, sym, ap, _∙_}
+use mathlib.Core.Path.{_≡_, sym, ap, _∙_}
 use mathlib.Core.List.{List}
 use Prim.Native.Nat.{ℕ, zero, suc, _≤_, _<_, _-_}
 use native.Mathlib.Nat.{not-suc-le-zero}

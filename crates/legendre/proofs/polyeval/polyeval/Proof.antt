@@ -1,15 +1,16 @@
-use Rattle.laws.specs.Ladder.{held, passed}
-use borrow.Author.Tests.{eq-eqb, ne-eqb}
+-- The length decides; the paired form reads only the first twelve.
 use mathlib.Core.Path.{_≡_, sym, _∙_}
 use mathlib.Core.List.{List}
 use Prim.Native.Nat.{ℕ, _≤_, _<_}
 use denote.Ref.{now}
+use borrow.Author.Tests.{eq-eqb, ne-eqb}
+use borrow.Author.Needs.{needs}
 use lib.Dec.{lit<}
 use lib.Ieee.{Float, nan}
 use lib.ListN.{length, take, getD}
 use lib.Seq.{length-take-le, getD-take}
+use Rattle.laws.specs.Ladder.{held, passed}
 use Rattle.legendre.specs.Polyeval.{polyevalOf, pairedOf, hornerOf}
-use borrow.Author.Needs.{needs}
 use Rattle.legendre.proofs.polyeval.polyeval.Statement.{statement}
 use Rattle.legendre.proofs.polyeval.polyeval.Tie as tie
 
@@ -29,17 +30,11 @@ module _ (x : Float) (row : List Float) (count : ℕ) (r : Float) (enough : coun
   unfolding polyevalOf
   other n h = passed _ _ (ne-eqb _ _ (λ e. n (sym (length-take-le count row enough) ∙ e))) h
 
-paired-requires : tie.Need-paired-requires
-paired-requires c κs = search needs
-
-returns : tie.Need-returns
-returns c = twelve (c .before .before .args .x) (now (c .before .before .args .row)) (c .before .before .args .count) _ (c .before .before .pre .1) (c .before .if1 .taken) (c .paired .ensures)
-
-horner-requires : tie.Need-horner-requires
-horner-requires c κs = search needs
-
-returns-2 : tie.Need-returns-2
-returns-2 c = other (c .before .before .args .x) (now (c .before .before .args .row)) (c .before .before .args .count) _ (c .before .before .pre .1) (c .before .if1 .left) (c .horner .ensures)
-
 pub polyeval-spec : {M : Type 1} → statement M
-polyeval-spec = tie.close (tie.spec paired-requires returns horner-requires returns-2)
+polyeval-spec =
+    tie.close
+    (tie.spec
+    (λ c κs. search needs)
+    (λ c. twelve (c .before .before .args .x) (now (c .before .before .args .row)) (c .before .before .args .count) _ (c .before .before .pre .1) (c .before .if1 .taken) (c .paired .ensures))
+    (λ c κs. search needs)
+    (λ c. other (c .before .before .args .x) (now (c .before .before .args .row)) (c .before .before .args .count) _ (c .before .before .pre .1) (c .before .if1 .left) (c .horner .ensures)))

@@ -1,17 +1,14 @@
-use Rattle.legendre.specs.Ellipk.{nextOf}
+-- The two means, by what their functions ensure.
 use borrow.Author.Needs.{needs}
+use Rattle.legendre.specs.Ellipk.{nextOf}
 use Rattle.legendre.proofs.k.Means.next.Statement.{statement}
 use Rattle.legendre.proofs.k.Means.next.Tie as tie
 
-arithmetic-requires : tie.Need-arithmetic-requires
-arithmetic-requires c κs = search needs
-
-geometric-requires : tie.Need-geometric-requires
-geometric-requires c κs = search needs
-
-returns : tie.Need-returns
-unfolding nextOf
-returns c = rw (c .geometric .ensures, c .before .arithmetic .ensures)
-
 pub next-spec : {M : Type 1} → statement M
-next-spec = tie.close (tie.spec arithmetic-requires geometric-requires returns)
+unfolding nextOf
+next-spec =
+    tie.close
+    (tie.spec
+    (λ c κs. search needs)
+    (λ c κs. search needs)
+    (λ c. rw (c .geometric .ensures, c .before .arithmetic .ensures)))

@@ -1,0 +1,126 @@
+-- WHAT IS ENTERED IS WHAT IS PRINTED. A row count and a list of edits, each written as a line: where every edit is accepted, the page is that of the rows worked
+-- out afresh from the last edit of each row, with their counts and exact total, as demand 3 says; else the number of the first line that is refused. Assumes nothing.
+use mathlib.Core.Path.{_≡_, refl, sym, ap, _∙_}
+use Prim.Native.Nat.{ℕ, suc, _+_, _^_, _≤_, _<_}
+use native.Mathlib.Omega.{arith}
+use mathlib.Core.Bool.{Bool, true, false, cond}
+use mathlib.Core.List.{List, [], _∷_, _++_, append-assoc, append-nil}
+use lib.Dec.{eqb}
+use borrow.Author.Tests.{le-ltb, eq-eqb, ne-eqb}
+use Rattle.laws.specs.Ladder.{when_gives_else_}
+use Rattle.line.specs.Line.{decimalOf, cut, lineOf}
+use Rattle.sheet.specs.Sheet.{sizeFor, encode}
+use Rattle.sheet.specs.Calls.{blankRefusal, blankOf}
+use Rattle.demands.specs.Edits.{Edit, answer, after, run, answerIn, accepted, fresh}
+use Rattle.demands.specs.Demand3.{demand-3}
+use Rattle.page.specs.Text.{decimal}
+use Rattle.page.specs.Page.{pageOf, badLine}
+use Rattle.engine.specs.Run.{Outcome, Start, Sheet, Bad, zeros, countOn, editOn, lineOn, linesOn, linesOf, printed, runOf}
+use Rattle.engine.specs.Holding.{length-zeros}
+use Rattle.engine.specs.Whole.{lines-bad}
+use Rattle.engine.specs.Written.{editText, read-decimal, written, from-decimal, from-less, cut-before, no-end}
+
+-- ---- what is entered
+
+-- the line of an edit
+abbrev pub textOf : Edit → List ℕ
+textOf e = editText (e .row) (e .function) (e .a) (e .b) (e .c)
+
+-- lines of edits, each with its line end
+unfoldable pub editLines : List Edit → List ℕ
+editLines [] = []
+editLines (e ∷ es) = textOf e ++ (10 ∷ editLines es)
+
+-- the row count, and the edits
+unfoldable pub sheetText : ℕ → List Edit → List ℕ
+sheetText r es = decimal r ++ (10 ∷ editLines es)
+
+-- an edit's numbers fit their fields
+pub record Fits (e : Edit) : Type 0 where
+  pub row : e .row < 2 ^ 32
+  pub function : e .function < 2 ^ 8
+  pub a : e .a < 2 ^ 64
+  pub b : e .b < 2 ^ 64
+  pub c : e .c < 2 ^ 64
+
+abbrev pub AllFit : List Edit → Type 0
+AllFit [] = Unit {0}
+AllFit (e ∷ es) = Fits e × AllFit es
+
+-- the number of the first line that is refused, the first edit's being k; 0 where there is none
+unfoldable pub refusedLine : ℕ → ℕ → List Edit → ℕ
+refusedLine r k [] = 0
+refusedLine r k (e ∷ es) =
+    when accepted r e gives refusedLine r (suc k) es else
+    k
+
+-- ---- its lines
+
+texts : List Edit → List (List ℕ)
+texts [] = []
+texts (e ∷ es) = textOf e ∷ texts es
+
+lines-edits : (es : List Edit) → cut 10 [] (editLines es) ≡ texts es
+unfolding editLines texts cut
+lines-edits [] = refl
+lines-edits (e ∷ es) =
+    cut-before 10 [] (textOf e) (editLines es) (no-end (e .row) (e .function) (e .a) (e .b) (e .c)) ∙ ap (λ (ls : List (List ℕ)). textOf e ∷ ls) (lines-edits es)
+
+lines-entered : (r : ℕ) (es : List Edit) → linesOf (sheetText r es) ≡ decimal r ∷ texts es
+unfolding linesOf sheetText
+lines-entered r es =
+    cut-before 10 [] (decimal r) (editLines es) (from-less 11 33 (decimal r) (omega arith) (from-decimal r)) ∙ ap (λ (ls : List (List ℕ)). decimal r ∷ ls) (lines-edits es)
+
+-- ---- what they come to
+
+run-more : (s : List ℕ) (es : List Edit) (e : Edit) → run s (es ++ (e ∷ [])) ≡ after (run s es) e
+unfolding run
+run-more s [] e = refl
+run-more s (d ∷ es) e = run-more (after s d) es e
+
+module _ (r : ℕ) (few : r ≤ 1024) where
+  z : List ℕ
+  z = zeros (sizeFor r)
+
+  made : blankRefusal z r ≡ 0
+  unfolding blankRefusal z
+  made = simp (le-ltb 1024 r few, eq-eqb _ _ (length-zeros (sizeFor r)))
+
+  -- the sheet after the edits so far
+  sheet : List Edit → List ℕ
+  sheet done = run (blankOf z r) done
+
+  counted : countOn (decimalOf (decimal r)) ≡ Sheet (sheet [])
+  unfolding countOn sheet run z
+  counted = rw (read-decimal r (omega arith)) (simp (le-ltb 1024 r few, eq-eqb _ 0 made))
+
+  one-edit : (k : ℕ) (done : List Edit) (e : Edit) → Fits e → editOn k (sheet done) (lineOf (textOf e)) ≡ cond (accepted r e) (Sheet (sheet (done ++ (e ∷ [])))) (Bad k)
+  unfolding editOn accepted sheet z
+  one-edit k done e fits =
+      rw (written (e .row) (e .function) (e .a) (e .b) (e .c) (fits .row) (fits .function) (fits .a) (fits .b) (fits .c))
+      (rw (demand-3 z r made .refusals done e, run-more (blankOf z r) done e) refl)
+
+  edits : (k : ℕ) (done es : List Edit) → AllFit es → 0 < k
+      → printed (linesOn k (Sheet (sheet done)) (texts es)) ≡ cond (eqb (refusedLine r k es) 0) (pageOf (sheet (done ++ es))) (badLine (refusedLine r k es))
+  unfolding linesOn lineOn printed texts refusedLine
+  edits k done [] fits pos = rw append-nil refl
+  edits k done (e ∷ es) fits pos =
+      ap (λ (o : Outcome). printed (linesOn (suc k) o (texts es))) (one-edit k done e (fits .0))
+      ∙ by (accepted r e) (edits (suc k) (done ++ (e ∷ [])) es (fits .1) (omega arith)) where
+        by : (t : Bool)
+            → printed (linesOn (suc k) (Sheet (sheet (done ++ (e ∷ [])))) (texts es)) ≡ cond (eqb (refusedLine r (suc k) es) 0) (pageOf (sheet ((done ++ (e ∷ [])) ++ es))) (badLine (refusedLine r (suc k) es))
+            → printed (linesOn (suc k) (cond t (Sheet (sheet (done ++ (e ∷ [])))) (Bad k)) (texts es))
+            ≡ cond (eqb (cond t (refusedLine r (suc k) es) k) 0) (pageOf (sheet (done ++ (e ∷ es)))) (badLine (cond t (refusedLine r (suc k) es) k))
+        by true rest = rest ∙ rw (append-assoc done (e ∷ []) es) refl
+        by false rest = rw (lines-bad (suc k) k (texts es)) (simp (ne-eqb k 0 (λ q. omega arith)))
+
+-- ---- the law
+
+pub entered : (r : ℕ) (es : List Edit) → r ≤ 1024 → AllFit es → let k = refusedLine r 2 es in
+    runOf (sheetText r es) ≡ cond (eqb k 0) (pageOf (encode (fresh r es))) (badLine k)
+unfolding runOf linesOn lineOn sheet
+entered r es few fits =
+    ap (λ (ls : List (List ℕ)). printed (linesOn 1 Start ls)) (lines-entered r es)
+    ∙ ap (λ (o : Outcome). printed (linesOn 2 o (texts es))) (counted r few)
+    ∙ edits r few 2 [] es fits (omega arith)
+    ∙ ap (λ (s : List ℕ). cond (eqb (refusedLine r 2 es) 0) (pageOf s) (badLine (refusedLine r 2 es))) (demand-3 (z r few) r (made r few) .sheet es)

@@ -1,0 +1,68 @@
+-- The run as a whole: from the input's bytes to the output's (01, "The program reads standard input"). Definitions only.
+use Prim.Native.Nat.{ℕ, suc}
+use mathlib.Core.List.{List, [], _∷_, _++_}
+use lib.ListN.{replicate}
+use lib.Dec.{ltb, eqb}
+use Rattle.laws.specs.Ladder.{when_gives_else_}
+use Rattle.line.specs.declared.Number.{Number}
+use Rattle.line.specs.declared.Number.the-variants.{Value, Not}
+use Rattle.line.specs.declared.Line.{Line}
+use Rattle.line.specs.declared.Line.the-variants.{Edit, Malformed}
+use Rattle.line.specs.Line.{decimalOf, cut, lineOf}
+use Rattle.sheet.specs.Sheet.{sizeFor, mostRows}
+use Rattle.sheet.specs.Calls.{blankRefusal, blankOf, editRefusal, editOf}
+use Rattle.page.specs.Page.{pageOf, badLine}
+
+-- an input that is read in parts
+unfoldable pub joined : List (List ℕ) → List ℕ
+joined [] = []
+joined (p ∷ ps) = p ++ joined ps
+
+-- a line end ends a line; bytes after the last line end are a line too
+unfoldable pub linesOf : List ℕ → List (List ℕ)
+linesOf input = cut 10 [] input
+
+-- what the lines so far have come to
+pub data Outcome : Type 0 where
+  Start : Outcome
+  Sheet : List ℕ → Outcome
+  Bad : ℕ → Outcome
+
+unfoldable pub zeros : ℕ → List ℕ
+zeros n = replicate n 0
+
+-- the row count: a blank sheet, made in zeros; line 1 is bad where there is no number or the call is refused
+unfoldable pub countOn : Number → Outcome
+countOn Not = Bad 1
+countOn (Value r) =
+    when ltb mostRows r gives Bad 1 else
+    when eqb (blankRefusal (zeros (sizeFor r)) r) 0 gives Sheet (blankOf (zeros (sizeFor r)) r) else
+    Bad 1
+
+-- an edit of the sheet s, as line k: bad where it is malformed or the call is refused
+unfoldable pub editOn : ℕ → List ℕ → Line → Outcome
+editOn k s Malformed = Bad k
+editOn k s (Edit row function a b c) =
+    when eqb (editRefusal s row function) 0 gives Sheet (editOf s row function a b c) else
+    Bad k
+
+-- one more line, as line k: the first is the row count, and after a bad one nothing more is read
+unfoldable pub lineOn : ℕ → Outcome → List ℕ → Outcome
+lineOn k Start l = countOn (decimalOf l)
+lineOn k (Sheet s) l = editOn k s (lineOf l)
+lineOn k (Bad j) l = Bad j
+
+-- lines one after the other, the first of them as line k
+unfoldable pub linesOn : ℕ → Outcome → List (List ℕ) → Outcome
+linesOn k o [] = o
+linesOn k o (l ∷ ls) = linesOn (suc k) (lineOn k o l) ls
+
+-- the output: the page, or the first bad line alone; no line at all is a bad line 1
+unfoldable pub printed : Outcome → List ℕ
+printed Start = badLine 1
+printed (Sheet s) = pageOf s
+printed (Bad k) = badLine k
+
+-- the run
+unfoldable pub runOf : List ℕ → List ℕ
+runOf input = printed (linesOn 1 Start (linesOf input))

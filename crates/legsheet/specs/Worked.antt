@@ -1,0 +1,35 @@
+-- 01's worked example: "Given .. it prints exactly ..". Each side is computed. Assumes nothing.
+use mathlib.Core.Path.{_≡_, refl}
+use mathlib.Core.List.{_++_}
+use lib.Ieee.{isNan, ofBits, toBits, mul, lt, le, eq, ne, neg, sub, round}
+use Rattle.laws.specs.Ascii.{ascii}
+use Rattle.answer.specs.Answer.{refusalOf, firstOf, secondOf}
+use Rattle.legendre.specs.Domain.{byDomain}
+use Rattle.legendre.specs.Ellipke.{ellipkeOf}
+use Rattle.incomplete.specs.Settle.{handedOf}
+use Rattle.incomplete.specs.Ellippi.{ellippiOf}
+use Rattle.incomplete.specs.Ellipeinc.{itselfOf, ellipeincOf}
+use Rattle.functions.specs.Functions.{usedOf, evaluateOf}
+use Rattle.total.specs.Total.{N, Half, signed, negative, sizeOf, unitsOf, addOf, takeOf, roundTotal}
+use Rattle.line.specs.Line.{digitOf, spellOf, decimalOf, patternOf, onto, cut, fieldsOf, given, editFrom, lineOf}
+use Rattle.sheet.specs.Bytes.{bytes, number, fields, read}
+use Rattle.sheet.specs.Sheet.{entries, rowBytes, functionIn, refusalIn, firstIn, keep, answered, rowOf, kindOf, classOf, valueOf, sound, totals, count, sum, flat, encode}
+use Rattle.sheet.specs.Calls.{rowsIn, rowIn, countsIn, totalIn, equal, isSheet, plus, damaged, totalRefusal, rowRefusal, editRefusal, blankRefusal, blankOf, recount, edited, editOf, readOf, totalOf, countOf}
+use Rattle.page.specs.Text.{glyphOf, digitsOf, decimal, pattern}
+use Rattle.page.specs.Page.{answerAt, headText, answersText, rowText, rowLine, rowLines, countFields, countsLine, totalLine, pageOf}
+use Rattle.engine.specs.Run.{linesOf, zeros, countOn, editOn, lineOn, linesOn, printed, runOf}
+
+pub worked : runOf (
+    ascii "4\n"
+    ++ ascii "0 3 3ff0000000000000 0000000000000000 0000000000000000\n"
+    ++ ascii "1 5 0000000000000000 7ff8000000000000 0000000000000000\n"
+    ++ ascii "2 4 3ff0000000000000 3ff0000000000000 0000000000000000\n"
+    ++ ascii "3 5 4000000000000000 0000000000000000 0000000000000000\n")
+    ≡ ascii "0 3 0 7ff0000000000000 3ff0000000000000\n"
+    ++ ascii "1 5 0 0000000000000000 0000000000000000\n"
+    ++ ascii "2 4 4 0000000000000000 0000000000000000\n"
+    ++ ascii "3 5 0 4000000000000000 0000000000000000\n"
+    ++ ascii "counts 0 2 1 0 1\n"
+    ++ ascii "total 4000000000000000\n"
+unfolding isNan ofBits toBits mul lt le eq ne neg sub round refusalOf firstOf secondOf byDomain ellipkeOf handedOf ellippiOf itselfOf ellipeincOf usedOf evaluateOf N Half signed negative sizeOf unitsOf addOf takeOf roundTotal digitOf spellOf decimalOf patternOf onto cut fieldsOf given editFrom lineOf bytes number fields read entries rowBytes functionIn refusalIn firstIn keep answered rowOf kindOf classOf valueOf sound totals count sum flat encode rowsIn rowIn countsIn totalIn equal isSheet plus damaged totalRefusal rowRefusal editRefusal blankRefusal blankOf recount edited editOf readOf totalOf countOf glyphOf digitsOf decimal pattern answerAt headText answersText rowText rowLine rowLines countFields countsLine totalLine pageOf linesOf zeros countOn editOn lineOn linesOn printed runOf
+worked = refl

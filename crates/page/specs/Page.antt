@@ -1,0 +1,72 @@
+-- What the program prints (01, "it prints exactly"). Definitions only.
+use Prim.Native.Nat.{ℕ, zero, suc}
+use mathlib.Core.List.{List, [], _∷_, _++_}
+use lib.ListN.{length, take, drop, getD}
+use lib.Dec.{ltb, eqb}
+use lib.Ieee.{binary64, toBits}
+use Rattle.laws.specs.Ascii.{ascii}
+use Rattle.laws.specs.Ladder.{when_gives_else_}
+use Rattle.sheet.specs.Bytes.{number}
+use Rattle.sheet.specs.Sheet.{sizeFor, mostRows}
+use Rattle.sheet.specs.Calls.{rowsIn, readOf, totalOf, countOf}
+use Rattle.page.specs.Text.{decimal, pattern, space, end}
+
+-- ---- a row: its number, its function and its refusal number, and its two answers
+
+-- the answer that stands at a place of the row, as its bit pattern
+unfoldable pub answerAt : List ℕ → ℕ → ℕ
+answerAt w at = number (take 8 (drop at w))
+
+unfoldable pub headText : ℕ → ℕ → ℕ → List ℕ
+headText i function refusal = decimal i ++ space ++ decimal function ++ space ++ decimal refusal ++ space
+
+unfoldable pub answersText : ℕ → ℕ → List ℕ
+answersText first second = pattern first ++ space ++ pattern second ++ end
+
+-- the line of the row i that stands in the bytes w
+unfoldable pub rowText : ℕ → List ℕ → List ℕ
+rowText i w = headText i (getD w 0 0) (getD w 1 0) ++ answersText (answerAt w 32) (answerAt w 40)
+
+-- a row of the sheet; one that cannot be read has no line
+unfoldable pub rowLine : List ℕ → ℕ → List ℕ
+rowLine s i =
+    when eqb (length (readOf s i)) 48 gives rowText i (readOf s i) else
+    []
+
+-- the first n rows
+unfoldable pub rowLines : List ℕ → ℕ → List ℕ
+rowLines s zero = []
+rowLines s (suc n) = rowLines s n ++ rowLine s n
+
+-- ---- the counts and the total
+
+-- the counts of the first n classes
+unfoldable pub countFields : List ℕ → ℕ → List ℕ
+countFields s zero = []
+countFields s (suc n) = countFields s n ++ (decimal (countOf s n) ++ space)
+
+-- five numbers: blank, finite, +∞, -∞, refused
+unfoldable pub countsLine : List ℕ → List ℕ
+countsLine s = ascii "counts " ++ countFields s 4 ++ decimal (countOf s 4) ++ end
+
+-- the total rounded once, as its bit pattern
+unfoldable pub totalLine : List ℕ → List ℕ
+totalLine s = ascii "total " ++ pattern (toBits binary64 (totalOf s)) ++ end
+
+-- ---- the page
+
+-- all rows, the counts, the total; nothing for more bytes than the largest sheet has
+unfoldable pub pageOf : List ℕ → List ℕ
+pageOf s =
+    when ltb (sizeFor mostRows) (length s) gives [] else
+    rowLines s (rowsIn s) ++ countsLine s ++ totalLine s
+
+-- ---- instead of the page
+
+-- line k is malformed, or its call was refused
+unfoldable pub badLine : ℕ → List ℕ
+badLine k = ascii "bad line " ++ decimal k ++ end
+
+-- the input could not be read on after line k
+unfoldable pub failedLine : ℕ → List ℕ
+failedLine k = ascii "input failed after line " ++ decimal k ++ end

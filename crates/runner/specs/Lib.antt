@@ -1,0 +1,2 @@
+-- What the contracts between a read and a write cite.
+pub mod Turns

@@ -1,0 +1,84 @@
+#!/usr/bin/env python3
+"""Meridian arcs on WGS84 through the program legsheet, from latitudes to metres.
+
+The arc from the equator to a place is b·E(β, -e'²), β being the place's parametric latitude, tan β = (b/a)·tan φ (DLMF 19.30(i);
+e' is the second eccentricity). E is odd in β, so a leg from φ1 to φ2 is two rows, E(β2) and E(-β1), and the sheet's exact total
+is the length of all legs together in units of b.
+
+  meridian.py lines  < legs.txt   the program's input
+  meridian.py metres < output     legs and total in metres, from the program's output; legs.txt is read for the names
+  meridian.py check  < output     the same, held to a second method: mpmath's quadrature of a(1-e²)/(1-e²·sin²φ)^(3/2) dφ
+
+So:  examples/meridian.py lines < examples/legs.txt | examples/legsheet | examples/meridian.py metres
+"""
+import math, os, struct, sys
+
+A, B = 6378137.0, 6356752.314245179  # WGS84's half axes in metres
+M = -0.006739496742276434            # -e'² = 1 - (a/b)²
+LEGS = os.path.join(os.path.dirname(os.path.abspath(__file__)), 'legs.txt')
+
+def pattern(x):
+    return '%016x' % struct.unpack('<Q', struct.pack('<d', x))[0]
+
+def value(digits):
+    return struct.unpack('<d', struct.pack('<Q', int(digits, 16)))[0]
+
+def parametric(latitude):
+    """β of a geodetic latitude in degrees."""
+    if abs(latitude) == 90:
+        return math.copysign(math.pi / 2, latitude)
+    return math.atan(B / A * math.tan(math.radians(latitude)))
+
+def legs(lines):
+    for line in lines:
+        if line.strip() and not line.startswith('#'):
+            start, end, name = line.split(None, 2)
+            yield float(start), float(end), name.strip()
+
+def write_lines(given):
+    print(2 * len(given))
+    for k, (start, end, _) in enumerate(given):
+        print(2 * k, 5, pattern(parametric(end)), pattern(M), pattern(0.0))
+        print(2 * k + 1, 5, pattern(-parametric(start)), pattern(M), pattern(0.0))
+
+def read_output(text, given):
+    """Each leg's length and their total, in metres."""
+    lines = text.split('\n')
+    if len(lines) != 2 * len(given) + 3 or not lines[-2].startswith('total '):
+        sys.exit('this is not the output for these legs: ' + lines[0])
+    rows = [line.split() for line in lines[:2 * len(given)]]
+    for row in rows:
+        if row[2] != '0':
+            sys.exit('row %s was refused with %s' % (row[0], row[2]))
+    first = [value(row[3]) for row in rows]
+    return [B * math.fsum(first[2 * k:2 * k + 2]) for k in range(len(given))], B * value(lines[-2].split()[1])
+
+def quadrature(start, end):
+    """The second method: the meridian's radius of curvature, integrated over the geodetic latitude."""
+    import mpmath as mp
+    mp.mp.dps = 40
+    a, e2 = mp.mpf(A), 1 - (mp.mpf(B) / mp.mpf(A)) ** 2
+    ends = [mp.radians(mp.mpf(start)), mp.radians(mp.mpf(end))]
+    return mp.quad(lambda x: a * (1 - e2) / (1 - e2 * mp.sin(x) ** 2) ** mp.mpf('1.5'), mp.linspace(ends[0], ends[1], 9))
+
+def main():
+    what = sys.argv[1] if len(sys.argv) == 2 else ''
+    if what == 'lines':
+        return write_lines(list(legs(sys.stdin)))
+    if what not in ('metres', 'check'):
+        sys.exit(__doc__)
+    given = list(legs(open(LEGS)))
+    lengths, total = read_output(sys.stdin.read(), given)
+    worst = 0
+    for (start, end, name), metres in zip(given, lengths):
+        print('%15.3f m  %s' % (metres, name))
+        if what == 'check':
+            worst = max(worst, abs(metres - quadrature(start, end)))
+    print('%15.3f m  in all' % total)
+    if what == 'check':
+        whole = abs(total - sum(quadrature(start, end) for start, end, _ in given))
+        print('the second method differs by at most %.1e m a leg, and by %.1e m in all' % (worst, whole))
+        sys.exit(worst > 1e-6 or whole > 1e-6)
+
+if __name__ == '__main__':
+    main()

@@ -1,35 +1,39 @@
 //! K and E: the proved library against the same tables and iteration in Rust, in one run. m is spread evenly from -10 to 0.999, and then
-//! over the part that iterates. `twin` is the library's own code as Rust (root by the same digits), `ellip` the f64 reading of the given
-//! files on the hardware's root, `by_isqrt` that reading with root by u128::isqrt and multiply-add in integers.
-//! twin: legendre floor
+//! over the part that iterates. `twin` is the library's own code as Rust, called the same way (by function number, on patterns), `ellip` the
+//! f64 reading of the given files on the hardware's root, `by_isqrt` that reading with root by u128::isqrt and multiply-add in integers.
+//! twin: functions floor
 #[path = "target/by_isqrt/lib.rs"]
 mod by_isqrt;
 mod library;
 mod timing;
 
 use timing::Contest;
-use twin::answer::Parameter;
+
+const PASSES: usize = 40;
+
+fn by_twin(function: u8, m: f64) -> (u8, u64, u64) {
+    let z = twin::answer::read(twin::functions::evaluate(function, m.to_bits(), 0, 0));
+    (z.refusal, twin::bits::to_pattern(z.first), twin::bits::to_pattern(z.second))
+}
 
 fn contest(title: &str, arguments: &[f64]) {
     for function in 1..=3u8 {
         let name = ["ellipk", "ellipe", "ellipke"][function as usize - 1];
         let mut c = Contest::new(arguments);
-        c.enter("proved library (over the C face)", 15, |m: f64| library::evaluate(function, m.to_bits(), 0, 0));
+        c.enter("proved library (over the C face)", PASSES, move |m: f64| library::evaluate(function, m.to_bits(), 0, 0));
+        c.enter("the same code in Rust", PASSES, move |m| by_twin(function, m));
         match function {
             1 => {
-                c.enter("the same method in Rust", 15, |m| twin::legendre::ellipk(Parameter(m)));
-                c.enter("root by u128::isqrt, in Rust", 15, by_isqrt::ellipk);
-                c.enter("hardware root", 15, ellip::ellipk);
+                c.enter("root by u128::isqrt, in Rust", PASSES, by_isqrt::ellipk);
+                c.enter("hardware root", PASSES, ellip::ellipk);
             }
             2 => {
-                c.enter("the same method in Rust", 15, |m| twin::legendre::ellipe(Parameter(m)));
-                c.enter("root by u128::isqrt, in Rust", 15, by_isqrt::ellipe);
-                c.enter("hardware root", 15, ellip::ellipe);
+                c.enter("root by u128::isqrt, in Rust", PASSES, by_isqrt::ellipe);
+                c.enter("hardware root", PASSES, ellip::ellipe);
             }
             _ => {
-                c.enter("the same method in Rust", 15, |m| twin::legendre::ellipke(Parameter(m)));
-                c.enter("root by u128::isqrt, in Rust", 15, by_isqrt::ellipke);
-                c.enter("hardware root", 15, ellip::ellipke);
+                c.enter("root by u128::isqrt, in Rust", PASSES, by_isqrt::ellipke);
+                c.enter("hardware root", PASSES, ellip::ellipke);
             }
         }
         c.show(&format!("{name}, {title}"));

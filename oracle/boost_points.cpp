@@ -1,7 +1,8 @@
 // Boost.Math at the points of oracle/incomplete_points.py: how far its answers are from the references.
 //   g++ -O2 -std=c++17 oracle/boost_points.cpp -o OUT/boost_points && OUT/boost_points OUT
-// (Debian: libboost-math-dev.) Boost's ellint_3 and ellint_2 take the modulus k, so they serve m >= 0, and ellint_3 needs n < 1. At the other points Boost's own Carlson
-// functions are put together by DLMF 19.25.2, 19.25.4 and 19.25.9. All in long double, so that √m does not show.
+// (Debian: libboost-math-dev.) Boost's ellint_3, ellint_2 and ellint_1 take the modulus k, so they serve m >= 0, and ellint_3 needs n < 1. At the other points Boost's own Carlson
+// functions are put together by DLMF 19.25.2, 19.25.4, 19.25.9 and 19.25.5. All in long double, so that √m does not show.
+#include <boost/math/special_functions/ellint_1.hpp>
 #include <boost/math/special_functions/ellint_2.hpp>
 #include <boost/math/special_functions/ellint_3.hpp>
 #include <boost/math/special_functions/ellint_rd.hpp>
@@ -44,6 +45,15 @@ static real e_of(real phi, real m) {
     return 2 * turns * whole + std::copysign(part, s);
 }
 
+static real f_of(real phi, real m) {
+    if (direct_e(phi, m)) return ellint_1(std::sqrt(m), phi);
+    const real pi = constants::pi<real>(), turns = std::round(phi / pi), rest = phi - turns * pi, s = std::sin(rest);
+    const real whole = ellint_rf(real(0), 1 - m, real(1));
+    if (s == 0) return 2 * turns * whole;
+    const real c = 1 / (s * s), c1 = std::pow(std::cos(rest) / s, 2);
+    return 2 * turns * whole + std::copysign(ellint_rf(c1, c - m, c), s);
+}
+
 template <class Function, class Direct>
 static void compare(const std::string& out, const std::string& name, Function function, Direct direct) {
     std::ifstream lines(out + "/" + name + ".txt");
@@ -65,4 +75,5 @@ static void compare(const std::string& out, const std::string& name, Function fu
 int main(int, char** argv) {
     compare(argv[1], "ellippi", pi_of, direct_pi);
     compare(argv[1], "ellipeinc", e_of, direct_e);
+    compare(argv[1], "ellipf", f_of, direct_e);
 }

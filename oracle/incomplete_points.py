@@ -1,11 +1,11 @@
-"""Points of 01's comparison box for ellippi and ellipeinc, with references from mpmath, and how far docs/STEPS.md is from them.
+"""Points of 01's comparison box for ellippi, ellipeinc and ellipf, with references from mpmath, and how far docs/STEPS.md is from them.
 
     python3 oracle/incomplete_points.py OUT
 
-writes OUT/ellippi.txt and OUT/ellipeinc.txt, 5,000 lines each: two argument patterns and the pattern of the reference (40 digits, rounded once to
+writes OUT/ellippi.txt, OUT/ellipeinc.txt and OUT/ellipf.txt, 5,000 lines each: two argument patterns and the pattern of the reference (40 digits, rounded once to
 f64), 16 hex digits each, in the order of the function's arguments. The first 1,000 lines of each also go to oracle/points/, the list that is replayed:
 an answer passes if it is within 2^-36 of the reference, relative; a zero passes for a zero of either sign.
-The steps are run here in f64, with the C library's sine, cosine and root, and with K and E rounded from mpmath.
+The steps are run here in f64, with the C library's sine, cosine and root, and with K and E rounded from mpmath (ellipf's K by its own mean).
 Boost's answers at the same points: oracle/boost_points.cpp.
 """
 import math
@@ -203,6 +203,12 @@ def handed(v):
     return refused(6) if v != v else v
 
 
+def folded(size):
+    rest = math.fmod(size, HALF_PI)
+    mm = away((size - rest) / HALF_PI)
+    return (HALF_PI - rest, mm + 1, -1.0) if math.fmod(mm, 2.0) > 0.5 else (rest, mm, 1.0)
+
+
 def ellipeinc(phi, m):
     sign, size = -1.0 if phi < 0 else 1.0, abs(phi)
     if phi == 0:
@@ -223,10 +229,7 @@ def ellipeinc(phi, m):
     if m == 1:
         mm = away(size / PI)
         return handed(sign * (2 * mm + math.sin(size - mm * PI)))
-    angle = math.fmod(size, HALF_PI)
-    mm, s = away((size - angle) / HALF_PI), 1.0
-    if math.fmod(mm, 2.0) > 0.5:
-        mm, s, angle = mm + 1, -1.0, HALF_PI - angle
+    angle, mm, s = folded(size)
     met = True
     if angle == 0 or abs(m) * angle * angle < EPS:
         v = s * angle
@@ -250,6 +253,48 @@ def ellipeinc(phi, m):
     return handed(sign * (v + mm * complete(mpmath.ellipe, m) if mm != 0 else v))
 
 
+def mean_k(m):
+    """ellipk.rs's `ellipk_precise_unchecked`."""
+    x, y = 1.0, root(1 - m)
+    for _ in range(32):
+        if not abs(x - y) >= 1e-7 * abs(x):
+            break
+        x, y = (x + y) / 2, root(x * y)
+    diff, total = x - y, x + y
+    return div(PI, total * (1 - div(diff * diff, 4 * total * total)))
+
+
+def ellipf(phi, m):
+    if phi != phi or m != m:
+        return refused(1)
+    if m == 0:
+        return phi
+    sign, size = math.copysign(1.0, phi), abs(phi)
+    if m >= 1 and (size >= HALF_PI or m * (math.sin(phi) * math.sin(phi)) >= 1):
+        return refused(3)
+    if size > 2.0**52:
+        return handed(sign * INF if size == INF else sign * size * (mean_k(m) / HALF_PI))
+    angle, mm, s = folded(size)
+    sine, cosine = math.sin(angle), math.cos(angle)
+    s2, c2 = sine * sine, cosine * cosine
+    if m * s2 >= 1:
+        return refused(3)
+    c, c1 = div(1.0, s2), div(c2, s2)
+    if c == INF:
+        f = rf(c2, 1 - m * sine * sine, 1.0)
+        v = s * sine * f[0]
+    else:
+        cross = abs(c / m)
+        f = rf(c1, c1 + 1 - m if 0.9 < cross < 1.1 else c - m, c)
+        v = s * f[0]
+    if mm != 0:
+        v += mm * mean_k(m)
+    v *= sign
+    if m == -INF and not (f[1] and math.isfinite(v)):
+        return 0.0
+    return settled(f[1], v)
+
+
 # ---- references: definitions that use none of the steps above
 
 
@@ -264,6 +309,10 @@ def ellippi_reference(n, m):
 
 def ellipeinc_reference(phi, m):
     return mpmath.ellipe(mpf(phi), mpf(m))
+
+
+def ellipf_reference(phi, m):
+    return mpmath.ellipf(mpf(phi), mpf(m))
 
 
 # ---- points of 01's box
@@ -309,6 +358,14 @@ def amplitude(rng):
     return math.copysign(x, rng.random() - 0.3)
 
 
+def any_amplitude(rng):
+    """As above, and down to the smallest but for 2^-512 to 2^-511, where 1/sin² is finite and RF's sum of three such is not (docs/DIFFERENCES.md)."""
+    if rng.random() >= 0.1:
+        return amplitude(rng)
+    e = rng.uniform(-1070, -30)
+    return math.copysign(2.0 ** (e - 1 if -512 <= e <= -511 else e), rng.random() - 0.5)
+
+
 def points(name, known, draw, steps, reference, out):
     rng = random.Random(f"{SEED} {name}")
     lines, worst, where, refusals = [], mpf(0), None, 0
@@ -340,6 +397,7 @@ def main():
 
     points("ellippi", [(0.5, 0.5)], pi_point, ellippi, ellippi_reference, out)
     points("ellipeinc", [(PI / 4, 0.5)], lambda rng: (amplitude(rng), parameter(rng)), ellipeinc, ellipeinc_reference, out)
+    points("ellipf", [(PI / 4, 0.5)], lambda rng: (any_amplitude(rng), parameter(rng)), ellipf, ellipf_reference, out)
 
 
 if __name__ == "__main__":

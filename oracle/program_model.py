@@ -2,19 +2,19 @@
 """A model of the program legsheet, from the input's bytes to the output's, and the maker of its stored cases.
 
 It shares nothing with the Rattle code: lines are matched by regular expressions, the total is a Python whole number,
-and only such arguments are evaluated as document 01 names the answer of, so no elliptic integral is needed.
+and only such arguments are evaluated as documents 01 and 02 name the answer of, so no elliptic integral is needed.
 
   oracle/program_model.py                writes crates/cases/{args,data/,stdout}, crates/legsheet/{stdin,stdout} and examples/worked.txt
   oracle/program_model.py --check        says whether they are as it would write them
   oracle/program_model.py --run          the model as a program: standard input to standard output
   oracle/program_model.py --compare N    N inputs, most of them damaged somewhere, through target/bin/legsheet (`rt check legsheet`) and through the model
 """
-import os, random, re, shutil, struct, subprocess, sys
+import math, os, random, re, shutil, struct, subprocess, sys
 
 ROOT = os.path.join(os.path.dirname(os.path.abspath(__file__)), '..')
 PART = 4096  # bytes that the program reads at a time
 MOST = 1024  # rows
-LAST = 5     # the last function's number
+LAST = 6     # the last function's number
 
 # ---- floats
 
@@ -77,8 +77,17 @@ def incomplete(phi, m):
     if abs(phi) > 2.0 ** 52 and m > 1: return refused(2)
     raise ValueError('an elliptic integral would be needed')
 
+def incomplete_first(phi, m):
+    if is_nan(phi) or is_nan(m): return refused(1)
+    if m == 0 or phi == 0 and abs(m) != INF: return 0, phi, 0.0
+    if m >= 1 and abs(phi) >= math.pi / 2: return refused(3)
+    if m < 1 and abs(phi) == INF: return 0, phi, 0.0
+    if m == -INF: return refused(6) if abs(phi) > 2.0 ** 52 else (0, 0.0, 0.0)
+    raise ValueError('an elliptic integral would be needed')
+
 def evaluate(f, a, b):
-    return complete(f, value(a)) if f <= 3 else third(value(a), value(b)) if f == 4 else incomplete(value(a), value(b))
+    if f <= 3: return complete(f, value(a))
+    return {4: third, 5: incomplete, 6: incomplete_first}[f](value(a), value(b))
 
 # ---- the run
 
@@ -194,6 +203,7 @@ def cases():
     yield 'total_below_tie', b'3\n' + leg(0, LARGEST) + leg(1, 2.0 ** 970) + leg(2, -2.0 ** -1074)
     yield 'total_any_order', b'4\n' + leg(3, 1e300) + leg(1, 1.0) + leg(2, -1e300) + leg(0, 2.0 ** -1074)
     yield 'refusals', b'6\n' + edit(0, 1, NAN) + edit(1, 2, pattern(2.0)) + edit(2, 4, pattern(1.0)) + edit(3, 5, NAN, pattern(2.0)) + edit(4, 5, pattern(1.0), NAN)
+    yield 'first_kind', b'7\n' + edit(0, 6, pattern(1.5), 0, 7) + edit(1, 6, NAN) + edit(2, 6, pattern(2.0), pattern(1.0)) + edit(3, 6, pattern(-INF), pattern(0.5)) + edit(4, 6, pattern(1.0), pattern(-INF)) + edit(5, 6, pattern(-0.0), pattern(0.5)) + edit(6, 6, pattern(2.0 ** 53), pattern(-INF))
     yield 'long_input', many(2, 1024, 9000)
     yield 'split_everywhere', split_everywhere()
     # line 1

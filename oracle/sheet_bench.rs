@@ -50,12 +50,12 @@ fn contest(title: &str, edits: &[Edit], m: f64) {
     }
     let mut c = Contest::new(edits);
     for (s, name) in sheets.iter().zip(["proved library, 1 row", "proved library, 32 rows", "proved library, 1,024 rows"]) {
-        c.enter(name, 25, move |e| s.by_library(e, m));
+        c.enter(name, 200, move |e| s.by_library(e, m));
     }
     for (s, name) in sheets.iter().zip(["the same code in Rust, 1 row", "the same code in Rust, 32 rows", "the same code in Rust, 1,024 rows"]) {
-        c.enter(name, 25, move |e| s.by_twin(e, m));
+        c.enter(name, 200, move |e| s.by_twin(e, m));
     }
-    c.enter("the evaluation alone, proved library", 25, move |(_, angle): Edit| library::evaluate(5, angle.to_bits(), m.to_bits(), 0));
+    c.enter("the evaluation alone, proved library", 200, move |(_, angle): Edit| library::evaluate(5, angle.to_bits(), m.to_bits(), 0));
     c.show(title);
 }
 

@@ -1,5 +1,5 @@
 #!/usr/bin/env python3
-"""sheet_model.py [SEED]: a model of the leg sheet in whole numbers, read from 01 alone, and a script of calls with the answers that it works out.
+"""sheet_model.py [SEED]: a model of the leg sheet in whole numbers, read from 01 and 02 alone, and a script of calls with the answers that it works out.
 
 The script goes to standard output, one call a line, fields one space apart, numbers in lower-case hex:
 
@@ -13,13 +13,14 @@ The script goes to standard output, one call a line, fields one space apart, num
   N class count                      count (2, 8)
   S sum                              the whole buffer as one number, first byte highest, modulo 2^55 - 55 (16)
 
-Whoever replays it compares each answer, and each S with the bytes of its own buffer. The functions are used only where 01 names the answer (ellipeinc at m = 0 or
-at an angle of 0 or beyond, the others at their ends and refusals), so the model holds no elliptic integral."""
+Whoever replays it compares each answer, and each S with the bytes of its own buffer. The functions are used only where 01 or 02 names the answer (ellipeinc and ellipf at
+m = 0, at an angle of 0 or beyond, the others at their ends and refusals), so the model holds no elliptic integral."""
 import random, struct, sys
 
-MOST_ROWS, ROW, TOTALS = 1024, 48, 296
+MOST_ROWS, ROW, TOTALS, LAST = 1024, 48, 296, 6
 NAN, PLUS, MINUS = 0x7ff8000000000000, 0x7ff0000000000000, 0xfff0000000000000
 ONE, TOP, SIGN = 0x3ff0000000000000, 0x7fefffffffffffff, 1 << 63
+HALF_PI, FAR = 0x3ff921fb54442d18, 0x4330000000000000       # π/2 and 2^52
 MODULUS = 1 << 2176
 
 
@@ -47,9 +48,9 @@ def rounded(n):
     return sign + min(pattern, PLUS)
 
 
-# ---- 01's answers: (refusal, first, second), or None where 01 leaves them to the recipes
+# ---- the answers that 01 and 02 name: (refusal, first, second), or None where they leave them to the recipes
 
-USED = {0: 0, 1: 1, 2: 1, 3: 1, 4: 2, 5: 2}
+USED = {0: 0, 1: 1, 2: 1, 3: 1, 4: 2, 5: 2, 6: 2}
 
 
 def evaluate(f, a, b):
@@ -69,6 +70,13 @@ def evaluate(f, a, b):
         if n == MINUS or m == MINUS: return 0, 0, 0
         return None
     phi, m = a, b
+    if f == 6:
+        if is_nan(phi) or is_nan(m): return 1, 0, 0
+        if m % SIGN == 0 or phi % SIGN == 0 and not is_infinite(m): return 0, phi, 0
+        if key(m) >= key(ONE): return (3, 0, 0) if phi % SIGN >= HALF_PI else None
+        if is_infinite(phi): return 0, phi, 0
+        if m == MINUS: return (6, 0, 0) if phi % SIGN > FAR else (0, 0, 0)
+        return None
     if phi % SIGN == 0: return 0, 0, 0
     if m % SIGN == 0: return (1, 0, 0) if is_nan(phi) else (0, phi, 0)
     if not is_nan(phi) and phi % SIGN >= TOP: return 0, MINUS if phi >= SIGN else PLUS, 0
@@ -116,11 +124,11 @@ class Sheet:
         r = self.rows()
         if r is None: return 7
         if i >= r: return 8
-        if f > 5: return 9
+        if f > LAST: return 9
         row, counts = self.row(i), self.counts(r)
         first, = struct.unpack_from('<Q', row, 32)
         old, value = self.share(row)
-        if row[0] > 5 or row[1] > 6 or is_nan(first) or sum(counts) != r or counts[old] == 0: return 10
+        if row[0] > LAST or row[1] > 6 or is_nan(first) or sum(counts) != r or counts[old] == 0: return 10
         args = [x if k < USED[f] else 0 for k, x in enumerate((a, b, c))]
         q, x, y = evaluate(f, args[0], args[1])
         new_row = bytes([f, q]) + bytes(6) + struct.pack('<5Q', *args, x, y)
@@ -167,7 +175,7 @@ def make(r): out.append('M %08x %02x' % (r, sheet.make(r)))
 
 
 def edit(i, f, a=0, b=0, c=0):
-    if f <= 5 and evaluate(f, a, b) is None: raise ValueError('01 does not name this answer: %d %x %x' % (f, a, b))
+    if f <= LAST and evaluate(f, a, b) is None: raise ValueError('no rule names this answer: %d %x %x' % (f, a, b))
     out.append('E %08x %02x %016x %016x %016x %02x' % (i, f, a, b, c, sheet.edit(i, f, a, b, c)))
 
 
@@ -207,16 +215,18 @@ def value(rng):
 
 CORNERS = [(1, ONE, 0), (1, MINUS, 0), (1, NAN, 0), (1, ONE + 1, 0), (2, ONE, 0), (2, MINUS, 0), (2, NAN, 0), (2, PLUS, 0), (3, ONE, 0), (3, MINUS, 0), (3, NAN, 0), (3, ONE + 1, 0),
            (4, ONE, ONE), (4, 0x4000000000000000, ONE), (4, 0x3fe0000000000000, ONE), (4, NAN, 0), (4, 0, NAN), (4, ONE, 0x3ff8000000000000), (4, MINUS, 0), (4, 0, MINUS), (4, MINUS, ONE), (4, PLUS, ONE),
-           (5, 0, NAN), (5, SIGN, PLUS), (5, TOP, NAN), (5, SIGN + TOP, ONE), (5, MINUS, MINUS), (5, NAN, PLUS), (5, NAN, NAN), (5, NAN, 0), (5, ONE, NAN), (5, MINUS, 0), (5, TOP, SIGN)]
+           (5, 0, NAN), (5, SIGN, PLUS), (5, TOP, NAN), (5, SIGN + TOP, ONE), (5, MINUS, MINUS), (5, NAN, PLUS), (5, NAN, NAN), (5, NAN, 0), (5, ONE, NAN), (5, MINUS, 0), (5, TOP, SIGN),
+           (6, NAN, 0), (6, 0, NAN), (6, SIGN, 0), (6, MINUS, SIGN), (6, HALF_PI, ONE), (6, SIGN + HALF_PI, PLUS), (6, PLUS, ONE), (6, PLUS, 0x3fe0000000000000), (6, MINUS, MINUS), (6, ONE, MINUS), (6, FAR, MINUS),
+           (6, FAR + 1, MINUS), (6, SIGN + TOP, MINUS), (6, 0, TOP - (1 << 52)), (6, SIGN, 0x3fe0000000000000), (6, SIGN, SIGN + TOP)]
 
 
 def any_edit(rng, rows):
     i = rng.choice([rng.randrange(rows) if rows else 0] * 9 + [rows])
     pick = rng.randrange(12)
     if pick == 0: clear(i)
-    elif pick == 1: edit(i, rng.choice([0, 6, 7, 255]), value(rng), value(rng), value(rng))
+    elif pick == 1: edit(i, rng.choice([0, 7, 8, 255]), value(rng), value(rng), value(rng))
     elif pick < 5: f, a, b = rng.choice(CORNERS); edit(i, f, a, b, value(rng))
-    else: edit(i, 5, value(rng), rng.choice([0, SIGN]), value(rng))
+    else: edit(i, rng.choice([5, 6]), value(rng), rng.choice([0, SIGN]), value(rng))
 
 
 def example():

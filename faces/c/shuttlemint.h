@@ -53,7 +53,8 @@ enum {
     SM_ELLIPKE = 3,   /* a = m; K(m), E(m) */
     SM_ELLIPPI = 4,   /* a = n, b = m; Pi(n, m) */
     SM_ELLIPEINC = 5, /* a = phi, b = m; E(phi, m) */
-    SM_LAST_FUNCTION = SM_ELLIPEINC
+    SM_ELLIPF = 6,    /* a = phi, b = m; F(phi, m) */
+    SM_LAST_FUNCTION = SM_ELLIPF
 };
 
 /* |x|; x without its fraction; the whole number at or below x; the nearest whole number, halves away from zero. */

@@ -98,6 +98,11 @@ static void functions(void)
     CHECK(evaluates(SM_ELLIPPI, sm_pattern(2.0), ONE, 0, MINUS, 0));
     CHECK(evaluates(SM_ELLIPEINC, 0, NOT_A_NUMBER, 0, 0, 0));
     CHECK(evaluates(SM_ELLIPEINC, 1, 0, 0, 1, 0));
+    CHECK(evaluates(SM_ELLIPF, sm_pattern(-0.0), sm_pattern(0.5), 0, sm_pattern(-0.0), 0));
+    CHECK(evaluates(SM_ELLIPF, ONE, MINUS, 0, 0, 0));
+    CHECK(evaluates(SM_ELLIPF, MINUS, 0, 0, MINUS, 0));
+    CHECK(evaluates(SM_ELLIPF, NOT_A_NUMBER, 0, SM_NAN_ARGUMENT, 0, 0));
+    CHECK(evaluates(SM_ELLIPF, 0x3ff921fb54442d18, ONE, SM_AMPLITUDE_TOO_LARGE, 0, 0));
     CHECK(evaluates(SM_ELLIPK, NOT_A_NUMBER + 5, 0, SM_NAN_ARGUMENT, 0, 0));
     CHECK(evaluates(SM_ELLIPE, ONE + 1, 0, SM_PARAMETER_ABOVE_ONE, 0, 0));
     CHECK(evaluates(SM_ELLIPEINC, ONE, sm_pattern(2.0), SM_AMPLITUDE_TOO_LARGE, 0, 0));

@@ -1,4 +1,4 @@
--- The functions by their numbers (01, "The leg sheet"). Definitions only.
+-- The functions by their numbers (01, "The leg sheet", and 02). Definitions only.
 use Prim.Native.Nat.{ℕ}
 use mathlib.Core.Bool.{cond}
 use lib.Dec.{leb, eqb}
@@ -11,10 +11,11 @@ use Rattle.legendre.specs.Ellipe.{ellipeOf}
 use Rattle.legendre.specs.Ellipke.{ellipkeOf}
 use Rattle.incomplete.specs.Ellippi.{ellippiOf}
 use Rattle.incomplete.specs.Ellipeinc.{ellipeincOf}
+use Rattle.incomplete.specs.Ellipf.{ellipfOf}
 
 -- the last function's number: above it is refusal 9
 abbrev pub last : ℕ
-last = 5
+last = 6
 
 -- how many of the three arguments a function reads
 unfoldable pub usedOf : ℕ → ℕ
@@ -29,4 +30,5 @@ evaluateOf f a b c =
     when eqb f 3 gives ellipkeOf (float a) else
     when eqb f 4 gives ellippiOf (float a) (float b) else
     when eqb f 5 gives ellipeincOf (float a) (float b) else
+    when eqb f 6 gives ellipfOf (float a) (float b) else
     Refused 9

@@ -15,7 +15,7 @@ use Rattle.answer.specs.Sound.{Sound}
 use Rattle.answer.specs.declared.Answer.{Answer}
 use Rattle.answer.specs.declared.Answer.the-variants.{One, Pair, Infinite, Refused}
 use Rattle.legendre.specs.Values.{ellipk-answers, ellipe-answers, ellipke-answers}
-use Rattle.incomplete.specs.Values.{fair-sound, ellippi-fair, ellipeinc-fair}
+use Rattle.incomplete.specs.Values.{ellippi-may, ellipeinc-may, ellipf-may, numeric, fair-sound, ellippi-fair, ellipeinc-fair, ellipf-fair}
 use Rattle.functions.specs.Functions.{last, evaluateOf}
 
 zero-sound : Sound (One +0)
@@ -31,20 +31,21 @@ value-fits (Refused n) s = tt
 
 -- every function's answer is sound
 pub evaluated-sound : (f a b c : ℕ) → f ≤ last → Sound (evaluateOf f a b c)
-unfolding evaluateOf
+unfolding evaluateOf numeric
 evaluated-sound zero a b c h = zero-sound
 evaluated-sound (suc zero) a b c h = ellipk-answers .sound (float a) (ofBits-fits binary64 a)
 evaluated-sound (suc (suc zero)) a b c h = ellipe-answers .sound (float a) (ofBits-fits binary64 a)
 evaluated-sound (suc (suc (suc zero))) a b c h = ellipke-answers .sound (float a) (ofBits-fits binary64 a)
 evaluated-sound (suc (suc (suc (suc zero)))) a b c h =
-    fair-sound (float b =· 1·0) _ (ellippi-fair (float a) (float b) (value-fits _ (ellipk-answers .sound (float b) (ofBits-fits binary64 b))))
-evaluated-sound (suc (suc (suc (suc (suc zero))))) a b c h = fair-sound true _ (ellipeinc-fair (float a) (float b) (ofBits-fits binary64 a))
-evaluated-sound (suc (suc (suc (suc (suc (suc f)))))) a b c h = absurd (let z : ⊥ = omega arith in z)
+    fair-sound (ellippi-may (float b =· 1·0)) _ tt (ellippi-fair (float a) (float b) (value-fits _ (ellipk-answers .sound (float b) (ofBits-fits binary64 b))))
+evaluated-sound (suc (suc (suc (suc (suc zero))))) a b c h = fair-sound ellipeinc-may _ tt (ellipeinc-fair (float a) (float b) (ofBits-fits binary64 a))
+evaluated-sound (suc (suc (suc (suc (suc (suc zero)))))) a b c h = fair-sound ellipf-may _ tt (ellipf-fair (float a) (float b) (ofBits-fits binary64 a))
+evaluated-sound (suc (suc (suc (suc (suc (suc (suc f))))))) a b c h = absurd (let z : ⊥ = omega arith in z)
 
 -- and a number above the last has none
 pub beyond : (f a b c : ℕ) → last < f → evaluateOf f a b c ≡ Refused 9
 unfolding evaluateOf
-beyond f a b c h = rw (ne-eqb f 0 (λ e. omega arith), ne-eqb f 1 (λ e. omega arith), ne-eqb f 2 (λ e. omega arith), ne-eqb f 3 (λ e. omega arith), ne-eqb f 4 (λ e. omega arith), ne-eqb f 5 (λ e. omega arith))
+beyond f a b c h = rw (ne-eqb f 0 (λ e. omega arith), ne-eqb f 1 (λ e. omega arith), ne-eqb f 2 (λ e. omega arith), ne-eqb f 3 (λ e. omega arith), ne-eqb f 4 (λ e. omega arith), ne-eqb f 5 (λ e. omega arith), ne-eqb f 6 (λ e. omega arith))
 
 -- what holds of every sound answer and of refusal 9 holds of every evaluation
 each : (P : Answer → Type 0) → ((z : Answer) → Sound z → P z) → P (Refused 9) → (f a b c : ℕ) → P (evaluateOf f a b c)

@@ -12,6 +12,7 @@ use Rattle.legendre.specs.Ellipe.{ellipeOf}
 use Rattle.legendre.specs.Ellipke.{ellipkeOf}
 use Rattle.incomplete.specs.Ellippi.{ellippiOf}
 use Rattle.incomplete.specs.Ellipeinc.{ellipeincOf}
+use Rattle.incomplete.specs.Ellipf.{ellipfOf}
 use Rattle.functions.specs.Functions.{evaluateOf}
 
 abbrev amplitude : ℕ → Amplitude
@@ -39,13 +40,17 @@ pi n m = ellippiOf (n .0) (m .0)
 abbrev einc : Amplitude → Parameter → Answer
 einc φ m = ellipeincOf (φ .0) (m .0)
 
+abbrev f : Amplitude → Parameter → Answer
+f φ m = ellipfOf (φ .0) (m .0)
+
 pub record Sorts (a b c : ℕ) : Type 0 where
   pub first : evaluateOf 1 a b c ≡ k (parameter a)
   pub second : evaluateOf 2 a b c ≡ e (parameter a)
   pub both : evaluateOf 3 a b c ≡ ke (parameter a)
   pub third : evaluateOf 4 a b c ≡ pi (characteristic a) (parameter b)
   pub incomplete : evaluateOf 5 a b c ≡ einc (amplitude a) (parameter b)
+  pub incomplete-first : evaluateOf 6 a b c ≡ f (amplitude a) (parameter b)
 
 pub sorts : (a b c : ℕ) → Sorts a b c
 unfolding evaluateOf
-sorts a b c = record { first = refl; second = refl; both = refl; third = refl; incomplete = refl }
+sorts a b c = record { first = refl; second = refl; both = refl; third = refl; incomplete = refl; incomplete-first = refl }

@@ -1,4 +1,4 @@
-// The functions by their numbers (01, "The leg sheet"): the one place that knows them.
+// The functions by their numbers (01, "The leg sheet", and 02): the one place that knows them.
 use answer::Amplitude;
 use answer::Answer;
 use answer::Characteristic;
@@ -7,7 +7,7 @@ ghost use mathlib.Core.Path.{_≡_};
 ghost use Rattle.functions.specs.Functions.{evaluateOf, usedOf};
 
 // The last function's number; above it is refusal 9.
-pub const LAST: u8 = 5;
+pub const LAST: u8 = 6;
 
 // How many of the three arguments the function of this number reads.
 pub fn used(function: u8) -> u8
@@ -36,6 +36,7 @@ pub fn evaluate(function: u8, a: u64, b: u64, c: u64) -> Answer
         3 => legendre::ellipke(Parameter(x)),
         4 => incomplete::ellippi(Characteristic(x), Parameter(y)),
         5 => incomplete::ellipeinc(Amplitude(x), Parameter(y)),
+        6 => incomplete::ellipf(Amplitude(x), Parameter(y)),
         _ => Answer::Refused(9),
     }
 }

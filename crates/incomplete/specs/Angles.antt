@@ -1,31 +1,39 @@
 -- The angles whose sine and cosine ellipeinc asks for are at most 4 in size, so refusal 12 can't arise: half the remainder by π (step 6), |φ| - mm·π for |φ| ≤ 2^52 (step 7),
--- and the remainder by π/2 or what is left of π/2 (step 8). Assumes nothing.
+-- and the remainder by π/2 or what is left of π/2 (step 8). So are ellipf's: the same remainder, and |φ| < π/2 before the reduction. Assumes nothing.
 use mathlib.Core.Path.{_≡_, refl, sym, ap, subst}
 use Prim.Native.Nat.{ℕ, suc, _+_, _*_, _%_, _^_, _≤_, _<_}
 use native.Mathlib.Nat.{le-trans, mul-pos, mul-le-mul-right, mul-lt-mul-of-pos-right, le-of-mul-le-mul-right, mod-lt}
 use native.Mathlib.Omega.{arith}
-use mathlib.Core.Bool.{Bool, true, false, cond, true≢false}
+use mathlib.Core.Bool.{Bool, true, false, cond, _&&_, _||_, true≢false}
+use mathlib.Core.Logic.{_⊎_, inl, inr}
+use borrow.Author.Tests.{eq-eqb, lt-ltb, le-ltb}
 use lib.IntN.{ℤ, pos, negsuc}
-use lib.Dec.{T, lit≤, lit<}
+use lib.Dec.{T, ltb, eqb, lit≤, lit<}
 use lib.Pow.{pow-pos}
-use lib.Ieee.{Float, nan, inf, fin, binary64, up, down, round, div, rem, ofBits}
+use lib.Ieee.{Float, nan, inf, fin, binary64, up, down, round, div, rem, ofBits, le, lt, eq}
 use lib.Ieee.Fits.{down-pos}
 use lib.Ieee.Exact.{HasValue}
 use lib.Ieee.Back.{round-whole}
 use lib.Ieee.Order.{le-of-values}
 use lib.Ieee.Scale.{finite}
-use Rattle.laws.specs.Arithmetic.{_⊖_, _⊗_, _⊘_, _%%_, _<·_, _≤·_, _≠·_, π, π/2, ½, 2·0, 4·0}
+use Rattle.laws.specs.Arithmetic.{_⊖_, _⊗_, _⊘_, _%%_, _<·_, _≤·_, _=·_, _≠·_, π, π/2, ½, 2·0, 4·0}
+use Rattle.laws.specs.Flags.{lt-or-le}
 use Rattle.laws.specs.Kinds.{not-nan}
 use Rattle.laws.specs.Rounding.{Near}
 use Rattle.floor.specs.Whole.{magnitudeOf, roundOf, halfUp}
 use Rattle.floor.specs.WholeLaws.{half-is, round-fraction}
-use Rattle.incomplete.specs.declared.second_kind.Fold.{Fold}
-use Rattle.incomplete.specs.Ellipeinc.{far-out, halfRest, halfTurns, lineRest, foldedOf}
+use Rattle.answer.specs.Answer.{refusalOf}
+use Rattle.kernel.specs.Sine.{sineOf}
+use Rattle.kernel.specs.Cosine.{cosineOf}
+use Rattle.kernel.specs.Answered.{sine-answers, cosine-answers}
+use Rattle.incomplete.specs.declared.period.Fold.{Fold}
+use Rattle.incomplete.specs.Period.{far-out, foldedOf}
+use Rattle.incomplete.specs.Ellipeinc.{halfRest, halfTurns, lineRest}
 use Rattle.incomplete.specs.Magnitude.{magnitude-fin, magnitude-value, within, within-size, at-most-finite, at-most-size}
 use Rattle.incomplete.specs.Cuts.{U, Cut, cut, Small, small-round, mul-is, left-of, left-small}
 
 -- the f64 π is P / 2 ^ 48, π/2 is P / 2 ^ 49
-abbrev P : ℕ
+abbrev pub P : ℕ
 P = 884279719003555
 
 abbrev Q : ℕ
@@ -176,6 +184,48 @@ step-7 φ k h = go φ (within φ 1 (pos 52) (not-nan φ k) h) h
     go : (φ : Float) → T (finite φ) → (far-out <· magnitudeOf φ) ≡ false → T (magnitudeOf (lineRest (magnitudeOf φ)) ≤· 4·0)
     go (fin s m e) f h = subst (λ (a : Float). T (magnitudeOf (lineRest a) ≤· 4·0)) (sym (magnitude-fin s m e)) (line-small m e (plain (m * up e) (down e) (within-size s m e 1 (pos 52) h)))
 
+-- ---- ellipf: |φ| < π/2, where m may be 1 or more
+strict : (a b : ℕ) → (ltb a b || (eqb a b && (true || eqb a 0))) ≡ false → b < a
+strict a b h = go (lt-or-le b a)
+  where
+    least : a ≤ b → (a < b) ⊎ (b ≤ a) → ⊥
+    least k (inl l) = true≢false (rw (lt-ltb a b l) at h)
+    least k (inr l) = true≢false (rw (le-ltb a b l, eq-eqb a b (let e : a ≡ b = omega arith in e)) at h)
+
+    go : (b < a) ⊎ (a ≤ b) → b < a
+    go (inl l) = l
+    go (inr k) = absurd (least k (lt-or-le a b))
+
+pub quarter : (m : ℕ) (e : ℤ) → (π/2 ≤· fin false m e) ≡ false → m * up e * 562949953421312 < P * 1 * down e
+unfolding le lt eq ofBits
+quarter m e h = strict (P * 1 * down e) (m * up e * 562949953421312) h
+
+quarter-small : (m : ℕ) (e : ℤ) → (π/2 ≤· fin false m e) ≡ false → T (fin false m e ≤· 4·0)
+unfolding ofBits
+quarter-small m e h = le-of-values (fin false m e) 4·0 (m * up e) (down e) 4 1 (down-pos e) (lit< tt) (refl, refl) (refl, refl) (loose (m * up e) (down e) (quarter m e h))
+  where
+    loose : (a c : ℕ) → a * 562949953421312 < P * 1 * c → a * 1 ≤ 4 * c
+    loose a c h = omega arith
+
+not-below : (x y : Float) → (x ≤· y) ≡ false → (x <· y) ≡ false
+unfolding le
+not-below x y h = first (x <· y) (x =· y) h
+  where
+    first : (a b : Bool) → (a || b) ≡ false → a ≡ false
+    first false b e = refl
+    first true b e = e
+
+pub quarter-finite : (φ : Float) → (φ ≠· φ) ≡ false → (π/2 ≤· magnitudeOf φ) ≡ false → T (finite φ)
+unfolding ofBits
+quarter-finite φ k h = within φ P (negsuc 48) (not-nan φ k) (not-below π/2 (magnitudeOf φ) h)
+
+-- sine is asked before the reduction
+pub before-reduction : (φ : Float) → (φ ≠· φ) ≡ false → (π/2 ≤· magnitudeOf φ) ≡ false → T (magnitudeOf φ ≤· 4·0)
+before-reduction φ k h = go φ (quarter-finite φ k h) h
+  where
+    go : (φ : Float) → T (finite φ) → (π/2 ≤· magnitudeOf φ) ≡ false → T (magnitudeOf φ ≤· 4·0)
+    go (fin s m e) f h = subst (λ (a : Float). T (a ≤· 4·0)) (sym (magnitude-fin s m e)) (quarter-small m e (subst (λ (a : Float). (π/2 ≤· a) ≡ false) (magnitude-fin s m e) h))
+
 -- ---- as the kernel tests it, in whole numbers: |x| is a fraction of at most 4
 pub in-reach : (x : Float) → T (magnitudeOf x ≤· 4·0) → T (finite x)
 unfolding ofBits
@@ -187,3 +237,12 @@ in-reach-size s m e h = let l = at-most-size s m e 1 (pos 2) h in plain (m * up 
   where
     plain : (a c : ℕ) → a * 1 ≤ 1 * 4 * c → a ≤ 4 * c
     plain a c h = omega arith
+
+-- so the kernel answers: refusal 12 does not arise inside
+pub asked : (x : Float) → T (magnitudeOf x ≤· 4·0) → (refusalOf (sineOf x) ≡ 0) × (refusalOf (cosineOf x) ≡ 0)
+unfolding refusalOf
+asked nan h = absurd (in-reach nan h)
+asked (inf s) h = absurd (in-reach (inf s) h)
+asked (fin s m e) h =
+    let l = in-reach-size s m e h in
+    (ap refusalOf (sine-answers s m e l), ap refusalOf (cosine-answers s m e l))

@@ -1,7 +1,7 @@
 -- ellipeinc (01, "ellipeinc, in this order"); each step has the operations of ellipeinc.rs, in its order. Definitions only.
 use mathlib.Core.Bool.{Bool, true, cond, not, _||_, _&&_}
 use lib.Ieee.{Float, neg}
-use Rattle.laws.specs.Arithmetic.{_⊕_, _⊖_, _⊗_, _⊘_, _%%_, _<·_, _≤·_, _=·_, _≠·_, float, +0, most, π, π/2, ε, ½, 1·0, 2·0, 3·0}
+use Rattle.laws.specs.Arithmetic.{_⊕_, _⊖_, _⊗_, _⊘_, _%%_, _<·_, _≤·_, _=·_, _≠·_, +0, most, π, ε, 1·0, 2·0, 3·0}
 use Rattle.laws.specs.Ladder.{when_gives_else_}
 use Rattle.answer.specs.Answer.{valueOf}
 use Rattle.answer.specs.declared.Answer.{Answer}
@@ -14,16 +14,13 @@ use Rattle.legendre.specs.Ellipe.{ellipeOf}
 use Rattle.carlson.specs.Rf.{rfOf}
 use Rattle.carlson.specs.Rd.{rdOf}
 use Rattle.incomplete.specs.Settle.{handedOf}
+use Rattle.incomplete.specs.Period.{far-out, foldedOf}
 use Rattle.incomplete.specs.declared.Term.{Term}
-use Rattle.incomplete.specs.declared.second_kind.Fold.{Fold}
+use Rattle.incomplete.specs.declared.period.Fold.{Fold}
 
 -- the file's `invert`
 unfoldable pub signOf : Float → Float
 signOf φ = cond (φ <· +0) (neg 1·0) 1·0
-
--- 2^52
-abbrev pub far-out : Float
-far-out = float 0x4330_0000_0000_0000
 
 -- step 2
 unfoldable pub itselfOf : Float → Answer
@@ -57,14 +54,7 @@ lineRest size = size ⊖ halfTurns size ⊗ π
 unfoldable pub lineOf : Float → Float → Answer
 lineOf sign size = handedOf (sign ⊗ (2·0 ⊗ halfTurns size ⊕ valueOf (sineOf (lineRest size))))
 
--- step 8: the remainder by π/2, and parity
-unfoldable pub foldedOf : Float → Fold
-foldedOf size =
-    let rest = size %% π/2 in
-    let mm = roundOf ((size ⊖ rest) ⊘ π/2) in
-    cond (½ <· mm %% 2·0) (record { angle = π/2 ⊖ rest; mm = mm ⊕ 1·0; s = neg 1·0 }) (record { angle = rest; mm = mm; s = 1·0 })
-
--- the angle stands for its own integral
+-- step 8: the angle stands for its own integral
 unfoldable pub ownOf : Float → Float → Bool
 ownOf angle m = angle =· +0 || magnitudeOf m ⊗ angle ⊗ angle <· ε
 

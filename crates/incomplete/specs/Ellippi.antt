@@ -26,7 +26,7 @@ principalOf n m =
     let j = rjOf +0 (1·0 ⊖ m) 1·0 (1·0 ⊖ m ⊘ n) in
     settledOf (j .met) (neg (1·0 ⊘ 3·0) ⊗ m ⊘ n ⊗ j .value)
 
--- n < 0, m < 0: DLMF 19.6.1 where n = m, else the file's form without m - n
+-- n < 0, m < 0: DLMF 19.6.2 where n = m, else the file's form without m - n
 unfoldable pub bothBelowOf : Float → Float → Answer
 bothBelowOf n m =
     let rn = 1·0 ⊖ n in
@@ -49,7 +49,7 @@ firstZeroOf m =
     when m =· +0 gives One π/2 else
     finiteOf (valueOf (ellipkOf m))
 
--- n = m > 0 (DLMF 19.6.1)
+-- n = m > 0 (DLMF 19.6.2)
 unfoldable pub diagonalOf : Float → Answer
 diagonalOf m = finiteOf (1·0 ⊘ (1·0 ⊖ m) ⊗ valueOf (ellipeOf m))
 

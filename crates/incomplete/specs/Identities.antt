@@ -19,9 +19,10 @@ use Rattle.floor.specs.Root.{rootOf}
 use Rattle.floor.specs.Whole.{magnitudeOf}
 use Rattle.kernel.specs.Sine.{sineOf}
 use Rattle.legendre.specs.Ellipe.{ellipeOf}
-use Rattle.incomplete.specs.declared.second_kind.Fold.{Fold}
+use Rattle.incomplete.specs.declared.period.Fold.{Fold}
 use Rattle.incomplete.specs.Settle.{handedOf}
-use Rattle.incomplete.specs.Ellipeinc.{signOf, far-out, itselfOf, farOf, steepOf, lineOf, foldedOf, ownOf, withPeriodsOf, byRecipeOf, reducedOf, onSizeOf, ellipeincOf}
+use Rattle.incomplete.specs.Period.{far-out, foldedOf}
+use Rattle.incomplete.specs.Ellipeinc.{signOf, itselfOf, farOf, steepOf, lineOf, ownOf, withPeriodsOf, byRecipeOf, reducedOf, onSizeOf, ellipeincOf}
 use Rattle.incomplete.specs.Magnitude.{magnitude-nan, magnitude-neg}
 use Rattle.incomplete.specs.Signs.{mul-neg, div-neg, neg-neg}
 use Rattle.incomplete.specs.Tests.{differs-is}
@@ -88,7 +89,7 @@ mirrored-inf : (s : Bool) → Mirrored (inf s)
 unfolding eq lt neg ofBits
 mirrored-inf s = record { still = refl; sides = refl }
 
-same-kind : (φ : Float) → (neg φ ≠· neg φ) ≡ (φ ≠· φ)
+pub same-kind : (φ : Float) → (neg φ ≠· neg φ) ≡ (φ ≠· φ)
 unfolding neg isNan
 same-kind φ = differs-is (neg φ) ∙ kind φ ∙ sym (differs-is φ)
   where
@@ -97,23 +98,23 @@ same-kind φ = differs-is (neg φ) ∙ kind φ ∙ sym (differs-is φ)
     kind (inf s) = refl
     kind (fin s m e) = refl
 
+pub one-turned : (b : Bool) → cond (not b) (neg 1·0) 1·0 ≡ neg (cond b (neg 1·0) 1·0)
+one-turned true = sym (neg-neg 1·0)
+one-turned false = refl
+
 other-sign : (φ : Float) → (neg φ <· +0) ≡ not (φ <· +0) → signOf (neg φ) ≡ neg (signOf φ)
 unfolding signOf
-other-sign φ h = ap (λ (b : Bool). cond b (neg 1·0) 1·0) h ∙ go (φ <· +0)
-  where
-    go : (b : Bool) → cond (not b) (neg 1·0) 1·0 ≡ neg (cond b (neg 1·0) 1·0)
-    go true = sym (neg-neg 1·0)
-    go false = refl
+other-sign φ h = ap (λ (b : Bool). cond b (neg 1·0) 1·0) h ∙ one-turned (φ <· +0)
 
 -- ---- rung the tests, arm by arm
-rung : (t u : Bool) (a b c d : Answer) → t ≡ u → a ≡ turnOf c → b ≡ turnOf d → cond t a b ≡ turnOf (cond u c d)
+pub rung : (t u : Bool) (a b c d : Answer) → t ≡ u → a ≡ turnOf c → b ≡ turnOf d → cond t a b ≡ turnOf (cond u c d)
 rung t u a b c d e p q = ap (λ (t : Bool). cond t a b) e ∙ go u
   where
     go : (u : Bool) → cond u a b ≡ turnOf (cond u c d)
     go true = p
     go false = q
 
-handed-odd : (u v : Float) → u ≡ neg v → handedOf u ≡ turnOf (handedOf v)
+pub handed-odd : (u v : Float) → u ≡ neg v → handedOf u ≡ turnOf (handedOf v)
 unfolding handedOf turnOf neg
 handed-odd u v e = ap handedOf e ∙ go v
   where

@@ -17,6 +17,10 @@ pub magnitude-nan : magnitudeOf nan ≡ nan
 unfolding magnitudeOf
 magnitude-nan = refl
 
+pub magnitude-inf : (s : Bool) → magnitudeOf (inf s) ≡ inf false
+unfolding magnitudeOf
+magnitude-inf s = refl
+
 pub magnitude-fin : (s : Bool) (m : ℕ) (e : ℤ) → magnitudeOf (fin s m e) ≡ fin false m e
 unfolding magnitudeOf
 magnitude-fin s m e = refl

@@ -1,10 +1,10 @@
 -- A sign goes through a product and a quotient, for all values. Assumes nothing.
-use mathlib.Core.Path.{_≡_, refl, ap, _∙_}
-use Prim.Native.Nat.{ℕ, _*_}
+use mathlib.Core.Path.{_≡_, refl, sym, ap, _∙_}
+use Prim.Native.Nat.{ℕ, zero, suc, _+_, _*_, _^_}
 use mathlib.Core.Bool.{Bool, true, false, not, cond}
-use lib.Dec.{eqb}
+use lib.Dec.{T, eqb, ltb}
 use lib.IntN.{pos}
-use lib.Ieee.{Float, nan, inf, fin, Format, up, down, round, neg, mul, div, unlike}
+use lib.Ieee.{Float, nan, inf, fin, Format, prec, low, emax, up, down, odd, units, round, neg, mul, div, unlike}
 use Rattle.laws.specs.Exact.{round-neg}
 
 unlike-not : (s t : Bool) → unlike (not s) t ≡ not (unlike s t)
@@ -60,3 +60,36 @@ neg-neg (inf true) = refl
 neg-neg (inf false) = refl
 neg-neg (fin true m e) = refl
 neg-neg (fin false m e) = refl
+
+-- a square has no sign
+like : (s : Bool) → unlike s s ≡ false
+like true = refl
+like false = refl
+
+turned : (s : Bool) → unlike (not s) (not s) ≡ unlike s s
+turned s = like (not s) ∙ sym (like s)
+
+pub square-neg : (f : Format) (x : Float) → mul f (neg x) (neg x) ≡ mul f x x
+unfolding mul neg
+square-neg f nan = refl
+square-neg f (inf s) = ap inf (turned s)
+square-neg f (fin s m e) = ap (λ (b : Bool). round f b (m * up e * (m * up e)) (down e * down e)) (turned s)
+
+-- an infinity or a number without a sign
+unfoldable pub plain : Float → Bool
+plain nan = false
+plain (inf s) = not s
+plain (fin s m e) = not s
+
+units-plain : (f : Format) (q k : ℕ) → T (plain (units f false q k))
+unfolding plain units odd
+units-plain f q k = go (ltb (q * 2 ^ k) (2 ^ (low f + suc (emax f)))) q
+  where
+    go : (b : Bool) (q : ℕ) → T (plain (cond b (odd (suc (prec f)) false q k (low f)) (inf false)))
+    go true zero = tt
+    go true (suc q) = tt
+    go false q = tt
+
+pub round-plain : (f : Format) (a c : ℕ) → T (plain (round f false a c))
+unfolding round
+round-plain f a c = units-plain f _ _

@@ -1,4 +1,4 @@
-// ellippi and ellipeinc (01, modules 6 and 7) over Carlson's recipes: third_kind.rt is ellippi.rs, second_kind.rt is ellipeinc.rs.
+// ellippi and ellipeinc (01, modules 6 and 7) and ellipf (02, [1]) over Carlson's recipes: third_kind.rt is ellippi.rs, second_kind.rt ellipeinc.rs, first_kind.rt ellipf.rs.
 use answer::Answer;
 use answer::Parameter;
 ghost use mathlib.Core.Path.{_≡_};
@@ -9,9 +9,12 @@ ghost use Rattle.legendre.specs.Ellipk.{ellipkOf};
 ghost use Rattle.legendre.specs.Ellipe.{ellipeOf};
 ghost use Rattle.incomplete.specs.Settle.{infiniteOf, finiteOf, settledOf, handedOf};
 
+mod first_kind;
+mod period;
 mod second_kind;
 mod third_kind;
 
+pub use first_kind::ellipf;
 pub use second_kind::ellipeinc;
 pub use third_kind::ellippi;
 
@@ -46,7 +49,7 @@ pub(crate) fn cosine(x: f64) -> f64
     answer::value(kernel::cosine(x))
 }
 
-fn infinite(v: f64) -> bool
+pub(crate) fn infinite(v: f64) -> bool
     ensures { λ r. ⌜ r ≡ infiniteOf v ⌝ }
 {
     (v == f64::from_bits(0x7ff0_0000_0000_0000)) | (v == f64::from_bits(0xfff0_0000_0000_0000))

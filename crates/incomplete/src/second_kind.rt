@@ -4,6 +4,8 @@ use crate::Term;
 use crate::complete_e;
 use crate::cosine;
 use crate::handed;
+use crate::period::Fold;
+use crate::period::folded;
 use crate::sine;
 use answer::Amplitude;
 use answer::Answer;
@@ -11,14 +13,7 @@ use answer::Parameter;
 use carlson::rd;
 use carlson::rf;
 ghost use mathlib.Core.Path.{_≡_};
-ghost use Rattle.incomplete.specs.Ellipeinc.{signOf, itselfOf, farOf, steepOf, lineOf, foldedOf, ownOf, belowOf, aboveOf, recipeOf, withPeriodsOf, byRecipeOf, reducedOf, onSizeOf, ellipeincOf};
-
-// |φ| = mm·π/2 + s·angle, angle within a quarter period.
-pub(crate) struct Fold {
-    pub angle: f64,
-    pub mm: f64,
-    pub s: f64,
-}
+ghost use Rattle.incomplete.specs.Ellipeinc.{signOf, itselfOf, farOf, steepOf, lineOf, ownOf, belowOf, aboveOf, recipeOf, withPeriodsOf, byRecipeOf, reducedOf, onSizeOf, ellipeincOf};
 
 fn sign(phi: f64) -> f64
     ensures { λ r. ⌜ r ≡ signOf phi ⌝ }
@@ -60,25 +55,6 @@ fn line(sign: f64, size: f64) -> Answer
     let mm = floor::round(size / 3.141592653589793);
     let s = sine(size - mm * 3.141592653589793);
     handed(sign * (2.0 * mm + s))
-}
-
-fn folded(size: f64) -> Fold
-    ensures { λ r. ⌜ r ≡ foldedOf size ⌝ }
-{
-    let rest = size % 1.5707963267948966;
-    let mm = floor::round((size - rest) / 1.5707963267948966);
-    if mm % 2.0 > 0.5 {
-        return Fold {
-            angle: 1.5707963267948966 - rest,
-            mm: mm + 1.0,
-            s: -1.0,
-        };
-    }
-    Fold {
-        angle: rest,
-        mm,
-        s: 1.0,
-    }
 }
 
 // The file's `m.is_finite()` changes nothing: an infinite m times an angle above 0 is no small product.

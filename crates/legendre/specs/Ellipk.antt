@@ -40,3 +40,7 @@ kBelowOneOf m = belowOneOf kPieceOf kMeanOf m
 -- K(1) = ∞, K(-∞) = 0; negative m always by the mean
 unfoldable pub ellipkOf : Float → Answer
 ellipkOf m = byDomain m (Infinite false) (One +0) (One (kMeanOf (rootOf (1·0 ⊖ m)))) (One (kBelowOneOf m))
+
+-- the file's `ellipk_precise_unchecked`: the mean for any m
+unfoldable pub kUncheckedOf : Float → Float
+kUncheckedOf m = kMeanOf (rootOf (1·0 ⊖ m))

@@ -10,7 +10,7 @@ use crate::ke::pair;
 use answer::Answer;
 use answer::Parameter;
 ghost use mathlib.Core.Path.{_≡_};
-ghost use Rattle.legendre.specs.Ellipk.{ellipkOf};
+ghost use Rattle.legendre.specs.Ellipk.{kUncheckedOf, ellipkOf};
 ghost use Rattle.legendre.specs.Ellipe.{ellipeOf};
 ghost use Rattle.legendre.specs.Ellipke.{ellipkeOf};
 
@@ -49,6 +49,13 @@ pub fn ellipk(m: Parameter) -> Answer
         return Answer::One(k_mean(floor::root(1.0 - m)));
     }
     Answer::One(k_below_one(m))
+}
+
+// `ellipk_precise_unchecked` of ellipk.rs, as ellipf.rs calls it: the mean for any m, and no test. NaN for m > 1 and at -∞.
+pub fn k_unchecked(m: Parameter) -> f64
+    ensures { λ r. ⌜ r ≡ kUncheckedOf (m .0) ⌝ }
+{
+    k_mean(floor::root(1.0 - m.0))
 }
 
 // E(m), DLMF 19.2.8: E(1) = 1, E(-∞) = ∞.

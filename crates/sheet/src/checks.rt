@@ -1,11 +1,11 @@
 // What is refused.
-use super::LAST;
 use super::bytes::get_u32;
 use super::row::is_sound;
 use super::row::row_part;
 use super::row::share_of;
 use super::totals::read_counts;
 use super::totals::sum;
+use functions::LAST;
 ghost use mathlib.Core.Path.{_≡_};
 ghost use Prim.Native.Nat.{_+_, _*_, _≤_, _<_};
 ghost use lib.ListN.{length};

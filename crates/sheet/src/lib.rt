@@ -27,9 +27,6 @@ mod checks;
 mod row;
 mod totals;
 
-// The last function number: `last` of the functions' definitions, which the contracts cite.
-const LAST: u8 = 5;
-
 // A blank sheet of so many rows: 11 more than 1,024, 7 another length, 0 made.
 pub fn make_blank(sheet: &mut [u8], rows: u32) -> u8
     ensures { λ r. ⌜ (r ≡ blankRefusal (now (sheet .entry)) rows) × (now (sheet .exit) ≡ blankOf (now (sheet .entry)) rows) ⌝ }

@@ -1,7 +1,7 @@
 // A row: the words that an edit stores, and what its 48 bytes say.
-use super::LAST;
 use super::bytes::get_u64;
 use super::bytes::put_u64s;
+use functions::LAST;
 ghost use mathlib.Core.Path.{_≡_};
 ghost use Prim.Native.Nat.{_+_, _*_, _≤_, _<_};
 ghost use lib.ListN.{length};

@@ -36,14 +36,17 @@ fn more_kinds(name: &[u8]) -> u8 {
     if check::same(name, b"ellipeinc") {
         return 9;
     }
-    if check::same(name, b"sine") {
+    if check::same(name, b"ellipf") {
         return 10;
     }
-    if check::same(name, b"cosine") {
+    if check::same(name, b"sine") {
         return 11;
     }
-    if check::same(name, b"logarithm") {
+    if check::same(name, b"cosine") {
         return 12;
+    }
+    if check::same(name, b"logarithm") {
+        return 13;
     }
     0
 }
@@ -61,7 +64,7 @@ pub(crate) fn words(kind: u8) -> usize
     if kind == 7 {
         return 6;
     }
-    if kind > 9 {
+    if kind > 10 {
         return 4;
     }
     3
@@ -152,13 +155,23 @@ fn agrees_complete(s: &[u8]) -> bool {
     (head.good & m.good & first.good & second.good) & (refusal & values)
 }
 
+// The function of the sheet whose list this is.
+fn function_of(kind: u8) -> u8 {
+    if kind == 8 {
+        return 4;
+    }
+    if kind == 9 {
+        return 5;
+    }
+    6
+}
+
 // Within 2^-36 of the reference, relative; a zero must be a zero.
 fn agrees_near(kind: u8, s: &[u8]) -> Shown {
     let a = word(s, 0);
     let b = word(s, 17);
     let reference = word(s, 34);
-    let function = if kind == 8 { 4 } else { 5 };
-    let z = answer::read(functions::evaluate(function, a.value, b.value, 0));
+    let z = answer::read(functions::evaluate(function_of(kind), a.value, b.value, 0));
     let y = bits::from_pattern(reference.value);
     within(
         a.good & b.good & reference.good & (z.refusal == 0),
@@ -169,10 +182,10 @@ fn agrees_near(kind: u8, s: &[u8]) -> Shown {
 
 // The kernel's functions.
 fn computed(kind: u8, x: f64) -> Answer {
-    if kind == 10 {
+    if kind == 11 {
         return kernel::sine(x);
     }
-    if kind == 11 {
+    if kind == 12 {
         return kernel::cosine(x);
     }
     kernel::logarithm(x)
@@ -204,7 +217,7 @@ pub(crate) fn agrees(kind: u8, s: &[u8]) -> Shown {
     if kind == 7 {
         return exact(agrees_complete(s));
     }
-    if kind > 9 {
+    if kind > 10 {
         return agrees_bounded(kind, s);
     }
     if kind > 7 {

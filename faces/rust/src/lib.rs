@@ -5,8 +5,8 @@
 //!
 //! # Instead of crate ellip
 //!
-//! [`ellipk`], [`ellipe`], [`ellipke`], [`ellippi`] and [`ellipeinc`] have ellip's names and order of arguments, in f64. Code that
-//! uses them changes its `use` line; `?` still works in a function that returns ellip's [`StrErr`].
+//! [`ellipk`], [`ellipe`], [`ellipke`], [`ellippi`], [`ellipeinc`] and [`ellipf`] have ellip's names and order of arguments, in f64. Code
+//! that uses them changes its `use` line; `?` still works in a function that returns ellip's [`StrErr`].
 //!
 //! ```
 //! use shuttlemint::{ellipe, StrErr}; // was: use ellip::{ellipe, StrErr};
@@ -51,6 +51,7 @@ pub use sheet::{Class, Row, Sheet};
 /// | 3 | [`ellipke`] | m | K, E |
 /// | 4 | [`ellippi`] | n, m | Π |
 /// | 5 | [`ellipeinc`] | φ, m | E |
+/// | 6 | [`ellipf`] | φ, m | F |
 ///
 /// Arguments that the function does not have are not read, and answers that it does not have are 0. No answer is NaN. Refusals: 1 to
 /// 6, and 9 for a number above the last.
@@ -119,4 +120,14 @@ pub fn ellippi(n: f64, m: f64) -> Result<f64, Refusal> {
 /// ```
 pub fn ellipeinc(phi: f64, m: f64) -> Result<f64, Refusal> {
     Ok(values(5, phi, m)?.0)
+}
+
+/// F(φ, m), the incomplete integral of the first kind. Refusals: 1, 3 for m·sin²φ ≥ 1 or m ≥ 1 with |φ| ≥ π/2, 5 and 6.
+///
+/// ```
+/// let first = shuttlemint::ellipf(std::f64::consts::FRAC_PI_4, 0.5).unwrap();
+/// assert!((first - 0.826017876249245).abs() < 1e-14);
+/// ```
+pub fn ellipf(phi: f64, m: f64) -> Result<f64, Refusal> {
+    Ok(values(6, phi, m)?.0)
 }

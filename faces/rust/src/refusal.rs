@@ -73,7 +73,7 @@ impl Refusal {
             6 => "the steps overflow or meet 0·∞; take finite arguments, nearer to 1 in size",
             7 => "these bytes are no sheet; read all 328 + 48·rows bytes again, or make a blank sheet",
             8 => "there is no such row; rows are counted from 0 and stay below the sheet's row count",
-            9 => "no function has this number; 0 is blank, 1 ellipk, 2 ellipe, 3 ellipke, 4 ellippi, 5 ellipeinc",
+            9 => "no function has this number; 0 is blank, 1 ellipk, 2 ellipe, 3 ellipke, 4 ellippi, 5 ellipeinc, 6 ellipf",
             10 => "the row or the counts are damaged; fetch the sheet again, or edit every row afresh in a blank one",
             11 => "a sheet has at most 1,024 rows; spread the rows over more sheets",
             12 => "a logarithm, sine or cosine was asked outside its range; report the arguments that led to it",

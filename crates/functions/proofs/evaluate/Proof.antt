@@ -25,6 +25,9 @@ ellippi-requires c κs = search needs
 ellipeinc-requires : tie.Need-ellipeinc-requires
 ellipeinc-requires c κs = search needs
 
+ellipf-requires : tie.Need-ellipf-requires
+ellipf-requires c κs = search needs
+
 returns : tie.Need-returns
 unfolding evaluateOf
 returns c = rw (c .match .keys1)
@@ -51,7 +54,11 @@ returns-6 c = rw (c .ellipeinc .ensures, c .before .before .before .from-pattern
 
 returns-7 : tie.Need-returns-7
 unfolding evaluateOf
-returns-7 c = rw (ne-eqb _ _ (c .match .rest .0 .0 .0 .0 .0 .1), ne-eqb _ _ (c .match .rest .0 .0 .0 .0 .1), ne-eqb _ _ (c .match .rest .0 .0 .0 .1), ne-eqb _ _ (c .match .rest .0 .0 .1), ne-eqb _ _ (c .match .rest .0 .1), ne-eqb _ _ (c .match .rest .1))
+returns-7 c = rw (c .ellipf .ensures, c .before .before .before .from-pattern .ensures, c .before .before .from-pattern2 .ensures, c .before .match .keys7)
+
+returns-8 : tie.Need-returns-8
+unfolding evaluateOf
+returns-8 c = rw (ne-eqb _ _ (c .match .rest .0 .0 .0 .0 .0 .0 .1), ne-eqb _ _ (c .match .rest .0 .0 .0 .0 .0 .1), ne-eqb _ _ (c .match .rest .0 .0 .0 .0 .1), ne-eqb _ _ (c .match .rest .0 .0 .0 .1), ne-eqb _ _ (c .match .rest .0 .0 .1), ne-eqb _ _ (c .match .rest .0 .1), ne-eqb _ _ (c .match .rest .1))
 
 pub evaluate-spec : {M : Type 1} → statement M
 evaluate-spec =
@@ -64,10 +71,12 @@ evaluate-spec =
     ellipke-requires
     ellippi-requires
     ellipeinc-requires
+    ellipf-requires
     returns
     returns-2
     returns-3
     returns-4
     returns-5
     returns-6
-    returns-7)
+    returns-7
+    returns-8)

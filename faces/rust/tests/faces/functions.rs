@@ -2,7 +2,7 @@
 use crate::lent;
 use crate::model::{self, LARGEST, LAST, MINUS, NAN, ONE, PLUS, SIGN, TWO};
 use crate::random::Random;
-use shuttlemint::{ellipe, ellipeinc, ellipk, ellipke, ellippi, evaluate, Refusal, StrErr};
+use shuttlemint::{ellipe, ellipeinc, ellipf, ellipk, ellipke, ellippi, evaluate, Refusal, StrErr};
 
 /// Holds one evaluation, by both faces, to the rules.
 pub fn check(function: u8, arguments: [u64; 3], other: [u64; 3]) -> u8 {
@@ -35,6 +35,10 @@ pub fn check(function: u8, arguments: [u64; 3], other: [u64; 3]) -> u8 {
     if function == 5 && refusal == 0 && a % SIGN != 0 && !model::is_nan(a) {
         assert_eq!(lent::answers(5, [a ^ SIGN, b, c]), (0, first ^ SIGN, 0), "{}", said());
     }
+    // F(-φ, m) is -F(φ, m), but for the one zero at m = -∞.
+    if function == 6 && refusal == 0 && b != MINUS {
+        assert_eq!(lent::answers(6, [a ^ SIGN, b, c]), (0, first ^ SIGN, 0), "{}", said());
+    }
     refusal
 }
 
@@ -55,6 +59,9 @@ fn the_corner_table() {
         (5, [LARGEST, 0], (0, LARGEST, 0)),
         (5, [ONE, TWO], (3, 0, 0)),
         (4, [TWO, (-2f64.powi(683)).to_bits()], (5, 0, 0)),
+        (6, [ONE, TWO], (3, 0, 0)),
+        (6, [SIGN, half], (0, SIGN, 0)),
+        (6, [0, PLUS], (5, 0, 0)),
         (0, [NAN, NAN], (0, 0, 0)),
         (LAST + 1, [0, 0], (9, 0, 0)),
         (255, [NAN, NAN], (9, 0, 0)),
@@ -75,6 +82,7 @@ fn ellip_names() {
     close(ellipe(0.5).unwrap(), second, 1e-15);
     close(ellippi(0.5, 0.5).unwrap(), 2.7012877620953506, 2f64.powi(-36));
     close(ellipeinc(std::f64::consts::FRAC_PI_4, 0.5).unwrap(), 0.7481865041776612, 2f64.powi(-36));
+    close(ellipf(std::f64::consts::FRAC_PI_4, 0.5).unwrap(), 0.826017876249245, 2f64.powi(-36));
     assert_eq!(ellipk(1.0), Ok(f64::INFINITY));
     assert_eq!(ellipe(f64::NAN), Err(Refusal::NAN_ARGUMENT));
     assert_eq!(ellippi(1.0, 0.0), Err(Refusal::CHARACTERISTIC_ONE));
@@ -92,6 +100,7 @@ fn ellip_names() {
         one(2, ellipe(x));
         one(4, ellippi(x, y));
         one(5, ellipeinc(x, y));
+        one(6, ellipf(x, y));
         assert_eq!(ellipke(x).map(|(k, e)| [k.to_bits(), e.to_bits()]), evaluate(3, a, b, 0));
     }
 }
@@ -100,7 +109,7 @@ fn ellip_names() {
 fn any_patterns() {
     let mut random = Random(7);
     for _ in 0..30_000 {
-        let function = random.one_of(&[0, 1, 2, 3, 4, 4, 5, 5, LAST, LAST + 1, 255]);
+        let function = random.one_of(&[0, 1, 2, 3, 4, 4, 5, 5, 6, 6, LAST, LAST + 1, 255]);
         check(function, random.patterns(), random.patterns());
     }
 }

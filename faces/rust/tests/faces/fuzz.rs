@@ -60,7 +60,7 @@ fn step(random: &mut Random, both: &mut Both, wounds: &mut Wounds, whole: bool) 
     let rows = both.model.bytes.len().saturating_sub(328) as u64 / 48;
     let near = random.below(rows.max(1)) as u32;
     let row = if random.below(10) > 0 { near } else { random.one_of(&[rows as u32, rows as u32 + 1, u32::MAX]) };
-    let function = random.one_of(&[0, 1, 2, 3, 4, 4, 5, 5, 5, 5, LAST, LAST + 1, 255]);
+    let function = random.one_of(&[0, 1, 2, 3, 4, 4, 5, 5, 5, 5, 6, 6, LAST, LAST + 1, 255]);
     let arguments = random.patterns();
     match random.below(32) {
         0..=5 => _ = both.edit(row, function, arguments),

@@ -8,6 +8,9 @@ pub const NAN: u64 = 0x7ff8_0000_0000_0000;
 pub const ONE: u64 = 0x3ff0_0000_0000_0000;
 pub const TWO: u64 = 0x4000_0000_0000_0000;
 pub const LARGEST: u64 = PLUS - 1;
+/// π/2 and 2^52.
+const HALF_PI: u64 = 0x3ff9_21fb_5444_2d18;
+const FAR: u64 = 0x4330_0000_0000_0000;
 
 pub fn is_nan(p: u64) -> bool {
     p % SIGN > PLUS
@@ -61,13 +64,30 @@ pub fn named(function: u8, a: u64, b: u64) -> Option<Answers> {
         (5, phi, _) if !is_nan(phi) && phi % SIGN >= LARGEST => one(if phi >= SIGN { MINUS } else { PLUS }),
         (5, phi, m) if is_nan(phi) => refused(if above_one(m) { 2 } else { 1 }),
         (5, _, m) if is_nan(m) => refused(1),
+        (6, phi, m) if is_nan(phi) || is_nan(m) => refused(1),
+        (6, phi, m) if m % SIGN == 0 || (phi % SIGN == 0 && is_finite(m)) => one(phi),
+        (6, phi, m) if key(m) >= key(ONE) => {
+            if phi % SIGN >= HALF_PI {
+                refused(3)
+            } else {
+                None
+            }
+        }
+        (6, PLUS | MINUS, _) => one(a),
+        (6, phi, MINUS) => {
+            if phi % SIGN > FAR {
+                refused(6)
+            } else {
+                one(0)
+            }
+        }
         (1..=LAST, ..) => None,
         _ => refused(9),
     }
 }
 
 /// How many arguments each function reads.
-const USED: [usize; 6] = [0, 1, 1, 1, 2, 2];
+const USED: [usize; 7] = [0, 1, 1, 1, 2, 2, 2];
 /// The last function's number.
 pub const LAST: u8 = USED.len() as u8 - 1;
 

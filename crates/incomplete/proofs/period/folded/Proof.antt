@@ -1,8 +1,8 @@
 -- One return for each parity.
-use Rattle.incomplete.specs.Ellipeinc.{foldedOf}
+use Rattle.incomplete.specs.Period.{foldedOf}
 use borrow.Author.Needs.{needs}
-use Rattle.incomplete.proofs.second_kind.folded.Statement.{statement}
-use Rattle.incomplete.proofs.second_kind.folded.Tie as tie
+use Rattle.incomplete.proofs.period.folded.Statement.{statement}
+use Rattle.incomplete.proofs.period.folded.Tie as tie
 
 returns : tie.Need-returns
 unfolding foldedOf

@@ -1,4 +1,4 @@
-//! ellippi and ellipeinc: the proved library against the same code in Rust and Boost.Math, in one run, and the rounds that Carlson's
+//! ellippi, ellipeinc and ellipf: the proved library against the same code in Rust and Boost.Math, in one run, and the rounds that Carlson's
 //! recipes make on typical legs: meridian arcs on WGS84, by b·E(β, -e'²).
 //! twin: incomplete functions
 //! c++: boost_calls
@@ -15,6 +15,7 @@ use twin::answer::{value, Amplitude, Characteristic, Parameter};
 unsafe extern "C" {
     safe fn boost_ellippi(n: f64, m: f64) -> f64;
     safe fn boost_ellipeinc(phi: f64, m: f64) -> f64;
+    safe fn boost_ellipf(phi: f64, m: f64) -> f64;
 }
 
 type Call = fn(f64, f64) -> f64;
@@ -56,6 +57,7 @@ fn main() {
     let ellipeinc: Call = |a, b| value(twin::incomplete::ellipeinc(Amplitude(a), Parameter(b)));
     contest("ellippi, n from -10 to 0.9, m from 0.01 to 0.9", &pi, |a, b| evaluate(4, a, b), |a, b| value(twin::incomplete::ellippi(Characteristic(a), Parameter(b))), Some(|a, b| boost_ellippi(a, b)));
     contest("ellipeinc, φ from 0.01 to 1.57, m from 0.01 to 0.9", &e, |a, b| evaluate(5, a, b), ellipeinc, Some(|a, b| boost_ellipeinc(a, b)));
+    contest("ellipf, φ from 0.01 to 1.57, m from 0.01 to 0.9", &e, |a, b| evaluate(6, a, b), |a, b| value(twin::incomplete::ellipf(Amplitude(a), Parameter(b))), Some(|a, b| boost_ellipf(a, b)));
     contest("ellipeinc, legs (m = -e'²)", &legs, |a, b| evaluate(5, a, b), ellipeinc, None);
     let all: Vec<(usize, usize)> = legs.iter().map(|&(a, b)| rounds(a, b)).collect();
     let spread = |name: &str, each: &dyn Fn(&(usize, usize)) -> usize| {

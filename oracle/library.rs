@@ -15,8 +15,6 @@ mod raw {
         pub safe fn sm_logarithm(x: u64) -> u64;
         pub fn sm_blank(sheet: *mut u8, len: usize, rows: u32) -> u8;
         pub fn sm_edit(sheet: *mut u8, len: usize, row: u32, function: u8, a: u64, b: u64, c: u64) -> u8;
-        pub fn sm_row_at(sheet: *const u8, len: usize, row: u32) -> usize;
-        pub fn sm_total(sheet: *const u8, len: usize) -> u64;
         pub fn sm_evaluate(function: u8, a: u64, b: u64, c: u64, out: *mut u64, len: usize) -> u8;
     }
 }
@@ -68,14 +66,4 @@ pub fn blank(sheet: &mut [u8], rows: u32) -> u8 {
 pub fn edit(sheet: &mut [u8], row: u32, function: u8, arguments: [u64; 3]) -> u8 {
     let [a, b, c] = arguments;
     unsafe { raw::sm_edit(sheet.as_mut_ptr(), sheet.len(), row, function, a, b, c) }
-}
-
-/// The row's own 48 bytes; none where the read is refused.
-pub fn row(sheet: &[u8], row: u32) -> Option<&[u8]> {
-    let at = unsafe { raw::sm_row_at(sheet.as_ptr(), sheet.len(), row) };
-    sheet.get(at..)?.get(..48)
-}
-
-pub fn total(sheet: &[u8]) -> f64 {
-    f64::from_bits(unsafe { raw::sm_total(sheet.as_ptr(), sheet.len()) })
 }

@@ -3,6 +3,7 @@
 //! f64 reading of the given files on the hardware's root, `by_isqrt` that reading with root by u128::isqrt and multiply-add in integers.
 //! twin: functions floor
 #[path = "target/by_isqrt/lib.rs"]
+#[allow(unused_imports)]
 mod by_isqrt;
 mod library;
 mod timing;

@@ -1,6 +1,6 @@
 //! K and E: the proved library against the same tables and iteration in Rust, in one run. m is spread evenly from -10 to 0.999, and then
-//! over the part that iterates. `twin` is the library's own code as Rust, called the same way (by function number, on patterns), `ellip` the
-//! f64 reading of the given files on the hardware's root, `by_isqrt` that reading with root by u128::isqrt and multiply-add in integers.
+//! over the part that iterates. `twin` is the library's own code as Rust, called the same way (by function number, on patterns) and then
+//! directly, `ellip` the f64 reading of the given files on the hardware's root, `by_isqrt` that reading with root by u128::isqrt and multiply-add in integers.
 //! twin: functions floor
 #[path = "target/by_isqrt/lib.rs"]
 #[allow(unused_imports)]
@@ -9,6 +9,7 @@ mod library;
 mod timing;
 
 use timing::Contest;
+use twin::answer::Parameter;
 
 const PASSES: usize = 40;
 
@@ -25,14 +26,17 @@ fn contest(title: &str, arguments: &[f64]) {
         c.enter("the same code in Rust", PASSES, move |m| by_twin(function, m));
         match function {
             1 => {
+                c.enter("the same code in Rust, called directly", PASSES, |m| twin::legendre::ellipk(Parameter(m)));
                 c.enter("root by u128::isqrt, in Rust", PASSES, by_isqrt::ellipk);
                 c.enter("hardware root", PASSES, ellip::ellipk);
             }
             2 => {
+                c.enter("the same code in Rust, called directly", PASSES, |m| twin::legendre::ellipe(Parameter(m)));
                 c.enter("root by u128::isqrt, in Rust", PASSES, by_isqrt::ellipe);
                 c.enter("hardware root", PASSES, ellip::ellipe);
             }
             _ => {
+                c.enter("the same code in Rust, called directly", PASSES, |m| twin::legendre::ellipke(Parameter(m)));
                 c.enter("root by u128::isqrt, in Rust", PASSES, by_isqrt::ellipke);
                 c.enter("hardware root", PASSES, ellip::ellipke);
             }

@@ -1,6 +1,6 @@
 //! ellipf through the static library against the f64 reading of ellipf.rs: `oracle/run first_kind_compare [MILLIONS]`, 2 by default.
 //! Exact paths (refusals 1 and 3 for |φ| ≥ π/2, m = 0, |φ| > 2^52) must agree in bits, but that a NaN of the Rust is refusal 6 here.
-//! In 01's box the largest relative difference is shown, and how often both sides fail: where 1/sin² is finite and RF's sum of three such is not. RF there is this project's recipe.
+//! In 01's box, which has no lower end for φ, neither may fail, and the largest relative difference is shown. RF there is this project's recipe.
 //! twin: carlson
 mod library;
 mod patterns;
@@ -28,7 +28,8 @@ fn unit(random: &mut Random) -> f64 {
 
 fn amplitude(random: &mut Random) -> f64 {
     let far = f64::from_bits(0x4330_0000_0000_0000 + random.below(0x3cc0_0000_0000_0000));
-    let size = match random.below(5) {
+    let size = match random.below(6) {
+        5 => 2f64.powi(-512) * (1.0 + 3.0 * unit(random)),
         4 => 2f64.powf(-1074.0 * unit(random)),
         0 => f64::from_bits(random.pattern()),
         1 => far,
@@ -51,7 +52,7 @@ fn parameter(random: &mut Random) -> f64 {
 fn main() {
     let millions: u64 = std::env::args().nth(1).map_or(2, |n| n.parse().expect("a number of millions"));
     let mut random = Random(millions);
-    let (mut exact, mut boxed, mut failed, mut differ, mut largest, mut at) = (0u64, 0u64, 0u64, 0u64, 0f64, (0.0, 0.0));
+    let (mut exact, mut boxed, mut differ, mut largest, mut at) = (0u64, 0u64, 0u64, 0f64, (0.0, 0.0));
     for _ in 0..millions * 1_000_000 {
         let (phi, m) = (amplitude(&mut random), parameter(&mut random));
         let (ours, theirs) = (library::evaluate(6, phi.to_bits(), m.to_bits(), 0), rust(phi, m));
@@ -65,11 +66,6 @@ fn main() {
             if off > largest {
                 (largest, at) = (off, (phi, m));
             }
-            let narrow = (2f64.powi(-512)..2f64.powi(-511)).contains(&phi.abs());
-            if narrow && ours.0 == 5 && theirs.0 == 5 {
-                failed += 1;
-                continue;
-            }
             ours.0 != 0 || theirs.0 != 0 || !(off <= 2f64.powi(-36))
         } else {
             false
@@ -81,6 +77,6 @@ fn main() {
             }
         }
     }
-    println!("ellipf: {exact} arguments on exact paths and {boxed} in the box, {differ} differ, {failed} of the box refused 5 on both sides; largest relative difference in the box 2^{:.2} at {at:?}", largest.log2());
+    println!("ellipf: {exact} arguments on exact paths and {boxed} in the box, {differ} differ; largest relative difference in the box 2^{:.2} at {at:?}", largest.log2());
     std::process::exit((differ > 0) as i32);
 }

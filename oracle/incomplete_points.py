@@ -3,7 +3,7 @@
     python3 oracle/incomplete_points.py OUT
 
 writes OUT/ellippi.txt, OUT/ellipeinc.txt and OUT/ellipf.txt, 5,000 lines each: two argument patterns and the pattern of the reference (40 digits, rounded once to
-f64), 16 hex digits each, in the order of the function's arguments. The first 1,000 lines of each also go to oracle/points/, the list that is replayed:
+f64), 16 hex digits each, in the order of the function's arguments. The first 1,000 lines of each also go to crates/vectors/data, the lists that are replayed:
 an answer passes if it is within 2^-36 of the reference, relative; a zero passes for a zero of either sign.
 The steps are run here in f64, with the C library's sine, cosine and root, and with K and E rounded from mpmath (ellipf's K by its own mean).
 Boost's answers at the same points: oracle/boost_points.cpp.
@@ -81,7 +81,7 @@ def rc(x, y):
 
 
 def rf(x, y, z):
-    a = (x + y + z) / 3
+    a = 4 * ((x / 4 + y / 4 + z / 4) / 3)
     stops = lambda s: s[4] < s[3] / 512
 
     def turn(s):
@@ -359,11 +359,8 @@ def amplitude(rng):
 
 
 def any_amplitude(rng):
-    """As above, and down to the smallest but for 2^-512 to 2^-511, where 1/sin² is finite and RF's sum of three such is not (docs/DIFFERENCES.md)."""
-    if rng.random() >= 0.1:
-        return amplitude(rng)
-    e = rng.uniform(-1070, -30)
-    return math.copysign(2.0 ** (e - 1 if -512 <= e <= -511 else e), rng.random() - 0.5)
+    """As above, and down to the smallest: the box has no lower end, and in ellipf no small angle stands for its own integral."""
+    return math.copysign(2.0 ** rng.uniform(-1070, -30), rng.random() - 0.5) if rng.random() < 0.1 else amplitude(rng)
 
 
 def points(name, known, draw, steps, reference, out):
@@ -382,7 +379,7 @@ def points(name, known, draw, steps, reference, out):
         lines.append(" ".join(f"{pattern(v):016x}" for v in (*args, float(exact))))
     with open(os.path.join(out, name + ".txt"), "w") as f:
         f.write("\n".join(lines) + "\n")
-    with open(os.path.join(os.path.dirname(os.path.abspath(__file__)), "points", name + ".txt"), "w") as f:
+    with open(os.path.join(os.path.dirname(os.path.abspath(__file__)), "..", "crates", "vectors", "data", name + ".txt"), "w") as f:
         f.write("\n".join(lines[:STORED]) + "\n")
     print(f"{name}: {len(lines)} points, {refusals} refused, largest relative difference 2^{float(mpmath.log(worst, 2)):.2f} at {where}")
 
@@ -397,7 +394,9 @@ def main():
 
     points("ellippi", [(0.5, 0.5)], pi_point, ellippi, ellippi_reference, out)
     points("ellipeinc", [(PI / 4, 0.5)], lambda rng: (amplitude(rng), parameter(rng)), ellipeinc, ellipeinc_reference, out)
-    points("ellipf", [(PI / 4, 0.5)], lambda rng: (any_amplitude(rng), parameter(rng)), ellipf, ellipf_reference, out)
+    # where c = 1/sin² is finite, and three times it is not
+    narrow = [(2.0**-512 * (1 + k / 16), m) for k in range(16) for m in (-1000.0, 0.99)]
+    points("ellipf", narrow + [(PI / 4, 0.5)], lambda rng: (any_amplitude(rng), parameter(rng)), ellipf, ellipf_reference, out)
 
 
 if __name__ == "__main__":

@@ -139,7 +139,18 @@ rj-lost x y z p h =
 -- an argument is infinite or NaN
 pub rf-unmet : (x y z : Float) → Lost (finite x && finite y && finite z) → Rf.rfOf x y z .met ≡ false
 unfolding Rf.startOf ofBits
-rf-unmet x y z h = rf-lost x y z (lost-div (x ⊕ y ⊕ z) _ _ _ (three x y z h))
+rf-unmet x y z h = rf-lost x y z (lost-mul 4·0 (sum ⊘ 3·0) (lost-div sum _ _ _ (three (x ⊘ 4·0) (y ⊘ 4·0) (z ⊘ 4·0) quarters)))
+  where
+    sum : Float
+    sum = x ⊘ 4·0 ⊕ y ⊘ 4·0 ⊕ z ⊘ 4·0
+
+    quarter : (x : Float) → Lost (finite x) → Lost (finite (x ⊘ 4·0))
+    quarter x h = lost-div x _ _ _ h
+
+    quarters : Lost (finite (x ⊘ 4·0) && finite (y ⊘ 4·0) && finite (z ⊘ 4·0))
+    quarters =
+        both (finite x && finite y) (finite z) (finite (x ⊘ 4·0) && finite (y ⊘ 4·0)) (finite (z ⊘ 4·0))
+        (both (finite x) (finite y) (finite (x ⊘ 4·0)) (finite (y ⊘ 4·0)) (quarter x) (quarter y)) (quarter z) h
 
 pub rc-unmet : (x y : Float) → Lost (finite x && finite y) → Rc.rcOf x y .met ≡ false
 unfolding Rc.startOf ofBits

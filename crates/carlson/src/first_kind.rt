@@ -17,7 +17,8 @@ impl State {
     fn start(x: f64, y: f64, z: f64) -> State
         ensures { λ r. ⌜ r ≡ startOf x y z ⌝ }
     {
-        let mean = (x + y + z) / 3.0;
+        // Of quarters: the sum of three large arguments would overflow.
+        let mean = 4.0 * ((x / 4.0 + y / 4.0 + z / 4.0) / 3.0);
         let dx = floor::magnitude(mean - x);
         let dy = floor::magnitude(mean - y);
         let dz = floor::magnitude(mean - z);

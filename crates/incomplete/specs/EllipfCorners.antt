@@ -39,8 +39,8 @@ pub record EllipfCorners : Type 0 where
   -- no finite answer: 0 at -∞, else 5 where RF is not met
   pub one-at-minus-infinity : ellipfOf 1·0 -∞ ≡ One +0
   pub zero-at-infinity : ellipfOf +0 +∞ ≡ Refused 5
-  -- 1 / sin² is finite, and three times it is not
-  pub narrow : ellipfOf (float 0x1ff4_0000_0000_0000) ½ ≡ Refused 5
+  -- 1 / sin² is finite, and three times it is not: RF's mean is of quarters
+  pub narrow : ellipfOf (float 0x1ff4_0000_0000_0000) ½ ≡ One (float 0x1ff4_0000_0000_0000)
   -- F(π/4, 1/2) = 0.826017876249245..
   pub eighth : ellipfOf (float 0x3fe9_21fb_5444_2d18) ½ ≡ One (float 0x3fea_6ebd_0a8c_dc3a)
 

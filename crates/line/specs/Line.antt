@@ -36,6 +36,12 @@ decimalOf s =
     when ltb 1 (length s) && eqb (getD s 0 0) 48 gives Not else
     spellOf 10 0 s
 
+-- a hex number: up to 16 digits, and 0 for none
+unfoldable pub hexOf : List ℕ → Number
+hexOf s =
+    when ltb 16 (length s) gives Not else
+    spellOf 16 0 s
+
 -- a bit pattern: 16 digits
 unfoldable pub patternOf : List ℕ → Number
 patternOf s =

@@ -30,7 +30,7 @@ fn digit(b: u8) -> u64
 }
 
 // At most 16 digits of a base up to 16: their number fits, so nothing wraps.
-fn spell(s: &[u8], base: u64) -> Number
+pub(crate) fn spell(s: &[u8], base: u64) -> Number
     requires { ⌜ (base ≤ 16) × (length (now s) ≤ 16) ⌝ }
     ensures { λ r. ⌜ r ≡ spellOf base 0 (now (s .entry)) ⌝ }
 {

@@ -1,36 +1,19 @@
 // A line of the script (oracle/sheet_model.py): the numbers in it.
-ghost use Prim.Native.Nat.{_+_, _≤_, _<_};
+use line::Number;
+ghost use Prim.Native.Nat.{_≤_};
 ghost use lib.ListN.{length};
 
-fn digit(b: u8) -> u64
-    ensures { λ r. ⌜ r < 16 ⌝ }
-{
-    if b >= b'0' {
-        if b <= b'9' {
-            return (b - b'0') as u64;
-        }
-    }
-    if b >= b'a' {
-        if b <= b'f' {
-            return (b - b'a') as u64 + 10;
-        }
-    }
-    0
-}
-
-// So many hex digits from a place on; past the line's end they are zeros.
-pub(crate) fn hex(line: &[u8], from: usize, count: usize) -> u64
+// So many hex digits from a place on; 0 where the line has not so many there, or one is none.
+pub(crate) fn hex(s: &[u8], from: usize, count: usize) -> u64
     requires { ⌜ (from ≤ 4096) × (count ≤ 16) ⌝ }
 {
-    let mut x: u64 = 0;
-    let mut i: usize = 0;
-    while i < count {
-        let at = from + i;
-        if at < line.len() {
-            x = (x % 0x1000_0000_0000_0000) * 16 + digit(line[at]);
-        }
-        i += 1;
+    let to = from + count;
+    if s.len() < to {
+        return 0;
     }
+    let Number::Value(x) = line::read_hex(&s[from..to]) else {
+        return 0;
+    };
     x
 }
 

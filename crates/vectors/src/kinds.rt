@@ -1,6 +1,6 @@
 // What each kind of list is worked out by. A line holds the arguments' patterns, then the answer's.
 ghost use Prim.Native.Nat.{_<_, _≤_};
-use crate::line::word;
+use crate::text::word;
 use answer::Answer;
 
 // The kinds by number; 0 is none.

@@ -394,7 +394,7 @@ def main():
 
     points("ellippi", [(0.5, 0.5)], pi_point, ellippi, ellippi_reference, out)
     points("ellipeinc", [(PI / 4, 0.5)], lambda rng: (amplitude(rng), parameter(rng)), ellipeinc, ellipeinc_reference, out)
-    # where c = 1/sin² is finite, and three times it is not
+    # the stretch where c = 1/sin² is finite and three times it is not, and both its ends
     narrow = [(2.0**-512 * (1 + k / 16), m) for k in range(16) for m in (-1000.0, 0.99)]
     points("ellipf", narrow + [(PI / 4, 0.5)], lambda rng: (any_amplitude(rng), parameter(rng)), ellipf, ellipf_reference, out)
 

@@ -3,8 +3,8 @@ use Prim.Native.Nat.{ℕ}
 use mathlib.Core.Bool.{Bool}
 use lib.Ieee.{Float}
 use Rattle.laws.specs.Arithmetic.{_⊕_, _⊖_, _⊗_, _⊘_, _<·_, 1·0, 2·0, 3·0, 4·0, 7·0, 8·0, 9·0, 10·0, 22·0, 128·0, 159·0, 208·0}
-use Rattle.floor.specs.Root.{rootOf}
-use Rattle.floor.specs.Whole.{magnitudeOf}
+use Rattle.root.specs.Root.{rootOf}
+use Rattle.whole.specs.Whole.{magnitudeOf}
 use Rattle.carlson.specs.Loop.{duplicated}
 use Rattle.carlson.specs.Series.{largerOf}
 use Rattle.carlson.specs.declared.Outcome.{Outcome}

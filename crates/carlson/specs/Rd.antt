@@ -3,8 +3,8 @@ use Prim.Native.Nat.{ℕ}
 use mathlib.Core.Bool.{Bool}
 use lib.Ieee.{Float, neg}
 use Rattle.laws.specs.Arithmetic.{_⊕_, _⊖_, _⊗_, _⊘_, _<·_, +0, 1·0, 3·0, 4·0, 5·0, 6·0, 8·0, 1024·0}
-use Rattle.floor.specs.Root.{rootOf}
-use Rattle.floor.specs.Whole.{magnitudeOf}
+use Rattle.root.specs.Root.{rootOf}
+use Rattle.whole.specs.Whole.{magnitudeOf}
 use Rattle.carlson.specs.Loop.{duplicated}
 use Rattle.carlson.specs.Series.{fifthOf, largerOf}
 use Rattle.carlson.specs.declared.Outcome.{Outcome}

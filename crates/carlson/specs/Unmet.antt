@@ -7,7 +7,7 @@ use lib.IntN.{ℤ}
 use lib.Ieee.{Float, nan, inf, fin, add, sub, mul, div, neg, lt, ofBits, unlike}
 use lib.Ieee.Scale.{finite}
 use Rattle.laws.specs.Arithmetic.{_⊕_, _⊖_, _⊗_, _⊘_, _<·_, 2·0, 3·0, 4·0}
-use Rattle.floor.specs.Whole.{magnitudeOf}
+use Rattle.whole.specs.Whole.{magnitudeOf}
 use Rattle.carlson.specs.Loop.{iterate, duplicated}
 use Rattle.carlson.specs.Series.{largerOf}
 use Rattle.carlson.specs.declared.Outcome.{Outcome}

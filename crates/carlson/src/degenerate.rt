@@ -16,8 +16,8 @@ impl State {
         ensures { λ r. ⌜ r ≡ startOf x y ⌝ }
     {
         let mean = (x + y + y) / 3.0;
-        let dx = floor::magnitude(mean - x);
-        let dy = floor::magnitude(mean - y);
+        let dx = whole::magnitude(mean - x);
+        let dy = whole::magnitude(mean - y);
         State {
             x,
             y,
@@ -35,8 +35,8 @@ impl State {
     fn round(self) -> State
         ensures { λ r. ⌜ r ≡ roundOf self ⌝ }
     {
-        let rx = floor::root(self.x);
-        let ry = floor::root(self.y);
+        let rx = root::root(self.x);
+        let ry = root::root(self.y);
         let l = 2.0 * rx * ry + self.y;
         State {
             x: (self.x + l) / 4.0,
@@ -53,7 +53,7 @@ impl State {
         let high = 9.0 / 22.0 + s * (159.0 / 208.0 + s * (9.0 / 8.0));
         let series = 1.0 + s * s * (3.0 / 10.0 + s * (1.0 / 7.0 + s * (3.0 / 8.0 + s * high)));
         Outcome {
-            value: series / floor::root(self.mean),
+            value: series / root::root(self.mean),
             met: self.stops(),
             rounds,
             inside: 0,

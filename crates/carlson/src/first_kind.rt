@@ -19,9 +19,9 @@ impl State {
     {
         // Of quarters: the sum of three large arguments would overflow.
         let mean = 4.0 * ((x / 4.0 + y / 4.0 + z / 4.0) / 3.0);
-        let dx = floor::magnitude(mean - x);
-        let dy = floor::magnitude(mean - y);
-        let dz = floor::magnitude(mean - z);
+        let dx = whole::magnitude(mean - x);
+        let dy = whole::magnitude(mean - y);
+        let dz = whole::magnitude(mean - z);
         let near = larger(dx, dy);
         State {
             x,
@@ -41,9 +41,9 @@ impl State {
     fn round(self) -> State
         ensures { λ r. ⌜ r ≡ roundOf self ⌝ }
     {
-        let rx = floor::root(self.x);
-        let ry = floor::root(self.y);
-        let rz = floor::root(self.z);
+        let rx = root::root(self.x);
+        let ry = root::root(self.y);
+        let rz = root::root(self.z);
         let l = rx * ry + ry * rz + rz * rx;
         State {
             x: (self.x + l) / 4.0,
@@ -64,7 +64,7 @@ impl State {
         let e3 = x * y * z;
         let series = 1.0 - e2 / 10.0 + e3 / 14.0 + e2 * e2 / 24.0 - 3.0 * e2 * e3 / 44.0;
         Outcome {
-            value: series / floor::root(self.mean),
+            value: series / root::root(self.mean),
             met: self.stops(),
             rounds,
             inside: 0,

@@ -21,9 +21,9 @@ impl State {
         ensures { λ r. ⌜ r ≡ startOf x y z ⌝ }
     {
         let mean = (x + y + 3.0 * z) / 5.0;
-        let dx = floor::magnitude(mean - x);
-        let dy = floor::magnitude(mean - y);
-        let dz = floor::magnitude(mean - z);
+        let dx = whole::magnitude(mean - x);
+        let dy = whole::magnitude(mean - y);
+        let dz = whole::magnitude(mean - z);
         let near = larger(dx, dy);
         State {
             x,
@@ -45,9 +45,9 @@ impl State {
     fn round(self) -> State
         ensures { λ r. ⌜ r ≡ roundOf self ⌝ }
     {
-        let rx = floor::root(self.x);
-        let ry = floor::root(self.y);
-        let rz = floor::root(self.z);
+        let rx = root::root(self.x);
+        let ry = root::root(self.y);
+        let rz = root::root(self.z);
         let l = rx * ry + ry * rz + rz * rx;
         State {
             x: (self.x + l) / 4.0,
@@ -74,7 +74,7 @@ impl State {
             3.0 * (xy - zz) * zz,
             xy * zz * z,
         );
-        let tail = self.scale * series / (self.mean * floor::root(self.mean));
+        let tail = self.scale * series / (self.mean * root::root(self.mean));
         Outcome {
             value: tail + 3.0 * self.sum,
             met: self.stops(),

@@ -26,10 +26,10 @@ impl State {
         ensures { λ r. ⌜ r ≡ startOf x y z p ⌝ }
     {
         let mean = (x + y + z + 2.0 * p) / 5.0;
-        let dx = floor::magnitude(mean - x);
-        let dy = floor::magnitude(mean - y);
-        let dz = floor::magnitude(mean - z);
-        let dp = floor::magnitude(mean - p);
+        let dx = whole::magnitude(mean - x);
+        let dy = whole::magnitude(mean - y);
+        let dz = whole::magnitude(mean - z);
+        let dp = whole::magnitude(mean - p);
         let near = larger(dx, dy);
         let far = larger(dz, dp);
         State {
@@ -57,10 +57,10 @@ impl State {
         requires { ⌜ self .inside ≤ 4032 ⌝ }
         ensures { λ r. ⌜ r ≡ roundOf self ⌝ }
     {
-        let rx = floor::root(self.x);
-        let ry = floor::root(self.y);
-        let rz = floor::root(self.z);
-        let rp = floor::root(self.p);
+        let rx = root::root(self.x);
+        let ry = root::root(self.y);
+        let rz = root::root(self.z);
+        let rp = root::root(self.p);
         let l = rx * ry + ry * rz + rz * rx;
         let d = (rp + rx) * (rp + ry) * (rp + rz);
         let inner = rc(1.0, 2.0 * rp * (self.p + l) / d);
@@ -91,7 +91,7 @@ impl State {
         let e3 = xyz + 2.0 * e2 * p + 4.0 * pp * p;
         let e4 = (2.0 * xyz + e2 * p + 3.0 * pp * p) * p;
         let series = fifth(e2, e3, e4, xyz * pp);
-        let tail = self.scale * series / (self.mean * floor::root(self.mean));
+        let tail = self.scale * series / (self.mean * root::root(self.mean));
         Outcome {
             value: tail + 6.0 * self.sum,
             met: self.stops() & self.inner,

@@ -1,15 +1,21 @@
 -- Document 01's corner table: the rows marked P, as one fact. Assumes nothing.
-use Rattle.floor.specs.Corners.{FloorCorners, floor-corners}
+use Rattle.root.specs.laws.Corners.{RootCorners, root-corners}
+use Rattle.fused.specs.laws.Corners.{FusedCorner, fused-corner}
+use Rattle.whole.specs.laws.Corners.{WholeCorners, whole-corners}
 use Rattle.legendre.specs.Corners as complete
 use Rattle.incomplete.specs.Corners as incomplete
 
 pub record CornerTable : Type 0 where
-  -- √2, √(2^-1074), √-0; the multiply-add of 1 + 2^-52, 1 - 2^-52 and -1; 2.5 and -2.5 rounded
-  pub floor : FloorCorners
+  -- √2, √(2^-1074), √-0
+  pub root : RootCorners
+  -- the multiply-add of 1 + 2^-52, 1 - 2^-52 and -1
+  pub fused : FusedCorner
+  -- 2.5 and -2.5 rounded
+  pub whole : WholeCorners
   -- the piece of 0.85; ellipke at 1, -∞, 1 + 2^-52 and NaN
   pub complete-integrals : complete.Corners
   -- ellippi at (1, 1), (2, 1), (0.5, 1); ellipeinc at (0, NaN) and (2^-1000, -∞)
   pub other-integrals : incomplete.Corners
 
 pub corner-table : CornerTable
-corner-table = record { floor = floor-corners; complete-integrals = complete.corners; other-integrals = incomplete.corners }
+corner-table = record { root = root-corners; fused = fused-corner; whole = whole-corners; complete-integrals = complete.corners; other-integrals = incomplete.corners }

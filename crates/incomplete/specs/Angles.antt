@@ -20,8 +20,8 @@ use Rattle.laws.specs.Arithmetic.{_⊖_, _⊗_, _⊘_, _%%_, _<·_, _≤·_, _=
 use Rattle.laws.specs.Flags.{lt-or-le}
 use Rattle.laws.specs.Kinds.{not-nan}
 use Rattle.laws.specs.Rounding.{Near}
-use Rattle.floor.specs.Whole.{magnitudeOf, roundOf, halfUp}
-use Rattle.floor.specs.WholeLaws.{half-is, round-fraction}
+use Rattle.whole.specs.Whole.{magnitudeOf, roundOf, halfUp}
+use Rattle.whole.specs.laws.Meaning.{half-is, round-fraction}
 use Rattle.answer.specs.Answer.{refusalOf}
 use Rattle.kernel.specs.Sine.{sineOf}
 use Rattle.kernel.specs.Cosine.{cosineOf}

@@ -5,8 +5,8 @@ use lib.Ieee.{Float, nan, ofBits, neg, add, sub, mul, div, rem, lt, le, eq, ne, 
 use Rattle.laws.specs.Arithmetic.{_⊕_, _⊗_, float, +0, +∞, -∞, ½, 1·0, 2·0}
 use Rattle.answer.specs.Answer.{valueOf}
 use Rattle.answer.specs.declared.Answer.the-variants.{One, Infinite, Refused}
-use Rattle.floor.specs.Root.{rootOf}
-use Rattle.floor.specs.Whole.{magnitudeOf, floorOf}
+use Rattle.root.specs.Root.{rootOf}
+use Rattle.whole.specs.Whole.{magnitudeOf, floorOf}
 use Rattle.kernel.specs.Alternating.{squareOf, alternatingOf, upToFour}
 use Rattle.kernel.specs.Sine.{sineAt, sineOf}
 use Rattle.incomplete.specs.Settle.{handedOf}

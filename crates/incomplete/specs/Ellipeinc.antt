@@ -6,8 +6,8 @@ use Rattle.laws.specs.Ladder.{when_gives_else_}
 use Rattle.answer.specs.Answer.{valueOf}
 use Rattle.answer.specs.declared.Answer.{Answer}
 use Rattle.answer.specs.declared.Answer.the-variants.{One, Infinite, Refused}
-use Rattle.floor.specs.Root.{rootOf}
-use Rattle.floor.specs.Whole.{magnitudeOf, floorOf, roundOf}
+use Rattle.root.specs.Root.{rootOf}
+use Rattle.whole.specs.Whole.{magnitudeOf, floorOf, roundOf}
 use Rattle.kernel.specs.Sine.{sineOf}
 use Rattle.kernel.specs.Cosine.{cosineOf}
 use Rattle.legendre.specs.Ellipe.{ellipeOf}

@@ -6,7 +6,7 @@ use Rattle.laws.specs.Ladder.{when_gives_else_}
 use Rattle.answer.specs.Answer.{valueOf}
 use Rattle.answer.specs.declared.Answer.{Answer}
 use Rattle.answer.specs.declared.Answer.the-variants.{One, Refused}
-use Rattle.floor.specs.Whole.{magnitudeOf}
+use Rattle.whole.specs.Whole.{magnitudeOf}
 use Rattle.kernel.specs.Sine.{sineOf}
 use Rattle.kernel.specs.Cosine.{cosineOf}
 use Rattle.legendre.specs.Ellipk.{kUncheckedOf}

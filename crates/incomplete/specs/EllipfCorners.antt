@@ -5,8 +5,8 @@ use lib.Ieee.{nan, ofBits, neg, add, sub, sum, mul, div, rem, lt, le, eq, ne, ro
 use Rattle.laws.specs.Arithmetic.{dec, float, +0, +∞, -∞, most, π/2, ½, 1·0, 2·0}
 use Rattle.answer.specs.Answer.{valueOf}
 use Rattle.answer.specs.declared.Answer.the-variants.{One, Infinite, Refused}
-use Rattle.floor.specs.Root.{rootOf}
-use Rattle.floor.specs.Whole.{magnitudeOf, roundOf}
+use Rattle.root.specs.Root.{rootOf}
+use Rattle.whole.specs.Whole.{magnitudeOf, roundOf}
 use Rattle.kernel.specs.Alternating.{squareOf, alternatingOf, upToFour}
 use Rattle.kernel.specs.Sine.{sineAt, sineOf}
 use Rattle.kernel.specs.Cosine.{cosineAt, cosineOf}

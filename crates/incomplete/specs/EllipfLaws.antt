@@ -21,8 +21,8 @@ use Rattle.kernel.specs.Alternating.{squareOf, alternatingOf, upToFour}
 use Rattle.kernel.specs.Cosine.{cosineAt, cosineOf}
 use Rattle.kernel.specs.Symmetry.{negated, sine-odd, sine-zero, sine-minus-zero}
 use Rattle.legendre.specs.Ellipk.{kUncheckedOf}
-use Rattle.floor.specs.Whole.{magnitudeOf, roundOf}
-use Rattle.floor.specs.Root.{rootOf}
+use Rattle.whole.specs.Whole.{magnitudeOf, roundOf}
+use Rattle.root.specs.Root.{rootOf}
 use Rattle.carlson.specs.Loop.{iterate, duplicated}
 use Rattle.carlson.specs.Series.{largerOf}
 use Rattle.carlson.specs.Rf.{rfOf, startOf, stopsOf, seriesOf}

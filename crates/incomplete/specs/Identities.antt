@@ -15,8 +15,8 @@ use Rattle.laws.specs.Ladder.{held, passed}
 use Rattle.answer.specs.Answer.{valueOf}
 use Rattle.answer.specs.declared.Answer.{Answer}
 use Rattle.answer.specs.declared.Answer.the-variants.{One, Pair, Infinite, Refused}
-use Rattle.floor.specs.Root.{rootOf}
-use Rattle.floor.specs.Whole.{magnitudeOf}
+use Rattle.root.specs.Root.{rootOf}
+use Rattle.whole.specs.Whole.{magnitudeOf}
 use Rattle.kernel.specs.Sine.{sineOf}
 use Rattle.legendre.specs.Ellipe.{ellipeOf}
 use Rattle.incomplete.specs.declared.period.Fold.{Fold}

@@ -11,7 +11,7 @@ use lib.Ieee.Fits.{and-l}
 use lib.Ieee.Scale.{finite}
 use Rattle.laws.specs.Arithmetic.{_<·_, _≤·_}
 use Rattle.laws.specs.Flags.{fails}
-use Rattle.floor.specs.Whole.{magnitudeOf}
+use Rattle.whole.specs.Whole.{magnitudeOf}
 
 pub magnitude-nan : magnitudeOf nan ≡ nan
 unfolding magnitudeOf

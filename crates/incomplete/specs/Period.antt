@@ -2,7 +2,7 @@
 use mathlib.Core.Bool.{cond}
 use lib.Ieee.{Float, neg}
 use Rattle.laws.specs.Arithmetic.{_⊕_, _⊖_, _⊘_, _%%_, _<·_, float, π/2, ½, 1·0, 2·0}
-use Rattle.floor.specs.Whole.{roundOf}
+use Rattle.whole.specs.Whole.{roundOf}
 use Rattle.incomplete.specs.declared.period.Fold.{Fold}
 
 -- 2^52: a larger |φ| is not reduced

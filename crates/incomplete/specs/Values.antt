@@ -8,7 +8,7 @@ use lib.Ieee.{Float, nan, inf, fin, binary64, fits, ofBits, neg}
 use lib.Ieee.Fits.{and-l, and-r, add-fits, mul-fits, div-fits}
 use lib.Ieee.Scale.{finite}
 use Rattle.laws.specs.Arithmetic.{_⊖_, _⊗_, _<·_, _≤·_, _=·_, _≠·_, +0, +∞, -∞, most, π/2, 1·0}
-use Rattle.floor.specs.Whole.{magnitudeOf}
+use Rattle.whole.specs.Whole.{magnitudeOf}
 use Rattle.answer.specs.Answer.{valueOf}
 use Rattle.answer.specs.Sound.{Number, Sound}
 use Rattle.answer.specs.declared.Answer.{Answer}

@@ -32,7 +32,7 @@ fn hides_pole(phi: f64, m: f64) -> bool
     if !(m >= 1.0) {
         return false;
     }
-    if floor::magnitude(phi) >= 1.5707963267948966 {
+    if whole::magnitude(phi) >= 1.5707963267948966 {
         return true;
     }
     let s = sine(phi);
@@ -53,7 +53,7 @@ fn far(sign: f64, size: f64, m: f64) -> Answer
 fn middle(m: f64, c: f64, c1: f64) -> f64
     ensures { λ r. ⌜ r ≡ middleOf m c c1 ⌝ }
 {
-    let cross = floor::magnitude(c / m);
+    let cross = whole::magnitude(c / m);
     if (cross > 0.9) & (cross < 1.1) {
         return c1 + 1.0 - m;
     }
@@ -128,7 +128,7 @@ pub fn ellipf(phi: Amplitude, m: Parameter) -> Answer
         return Answer::Refused(3);
     }
     let sign = signum(phi);
-    let size = floor::magnitude(phi);
+    let size = whole::magnitude(phi);
     if size > 4503599627370496.0 {
         return far(sign, size, m);
     }

@@ -13,7 +13,7 @@ pub(crate) fn folded(size: f64) -> Fold
     ensures { λ r. ⌜ r ≡ foldedOf size ⌝ }
 {
     let rest = size % 1.5707963267948966;
-    let mm = floor::round((size - rest) / 1.5707963267948966);
+    let mm = whole::round((size - rest) / 1.5707963267948966);
     if mm % 2.0 > 0.5 {
         return Fold {
             angle: 1.5707963267948966 - rest,

@@ -43,16 +43,16 @@ fn far(sign: f64, size: f64, m: f64) -> Answer
 fn steep(sign: f64, size: f64, m: f64) -> Answer
     ensures { λ r. ⌜ r ≡ steepOf sign size m ⌝ }
 {
-    let periods = floor::floor(size / 3.141592653589793);
+    let periods = whole::floor(size / 3.141592653589793);
     let h = sine(size % 3.141592653589793 / 2.0);
     let area = 2.0 * (periods + h * h);
-    handed(sign * area * floor::root(-m))
+    handed(sign * area * root::root(-m))
 }
 
 fn line(sign: f64, size: f64) -> Answer
     ensures { λ r. ⌜ r ≡ lineOf sign size ⌝ }
 {
-    let mm = floor::round(size / 3.141592653589793);
+    let mm = whole::round(size / 3.141592653589793);
     let s = sine(size - mm * 3.141592653589793);
     handed(sign * (2.0 * mm + s))
 }
@@ -61,7 +61,7 @@ fn line(sign: f64, size: f64) -> Answer
 fn own(angle: f64, m: f64) -> bool
     ensures { λ r. ⌜ r ≡ ownOf angle m ⌝ }
 {
-    (angle == 0.0) | (floor::magnitude(m) * angle * angle < 2.220446049250313e-16)
+    (angle == 0.0) | (whole::magnitude(m) * angle * angle < 2.220446049250313e-16)
 }
 
 // Both terms are positive for m < 0.
@@ -81,7 +81,7 @@ fn above(m: f64, c: f64, c1: f64) -> Term
 {
     let f = rf(c1, c, c - m);
     let d = rd(c1, c, c - m);
-    let t = floor::root(c1 / (c * (c - m)));
+    let t = root::root(c1 / (c * (c - m)));
     Term {
         value: (1.0 - m) * f.value + m * (1.0 - m) * d.value / 3.0 + m * t,
         met: f.met & d.met,
@@ -156,7 +156,7 @@ pub fn ellipeinc(phi: Amplitude, m: Parameter) -> Answer
 {
     let phi = phi.0;
     let m = m.0;
-    let size = floor::magnitude(phi);
+    let size = whole::magnitude(phi);
     if phi == 0.0 {
         return Answer::One(0.0);
     }

@@ -12,9 +12,9 @@ use lib.Ieee.Exact.{HasValue, units-val}
 use lib.Ieee.Nearest.{nearest-ge}
 use lib.Ieee.Positive.{positive-of-value}
 use Rattle.laws.specs.Digits.{size-gt}
-use Rattle.floor.specs.Root.{wholeRoot, rootOf}
-use Rattle.floor.specs.RootLaws.{square-lt, whole-root-is, Between, kept, dropped, round-root-is, root-at}
-use Rattle.floor.specs.Whole.{magnitudeOf}
+use Rattle.root.specs.Root.{wholeRoot, rootOf}
+use Rattle.root.specs.laws.Meaning.{square-lt, whole-root-is, Between, kept, dropped, round-root-is, root-at}
+use Rattle.whole.specs.Whole.{magnitudeOf}
 
 -- ---- magnitude
 pub magnitude-value : (x : Float) (s : Bool) (a c : ℕ) → HasValue x s a c → HasValue (magnitudeOf x) false a c

@@ -11,7 +11,7 @@ use lib.Ieee.Exact.{HasValue}
 use lib.Ieee.Scale.{grid}
 use Rattle.laws.specs.Arithmetic.{_⊕_, _⊖_, _⊗_, _⊘_}
 use Rattle.laws.specs.Rounding.{round-value}
-use Rattle.floor.specs.Root.{rootOf}
+use Rattle.root.specs.Root.{rootOf}
 use Rattle.legendre.specs.Beneath.{rooted, root-most, root-least}
 use Rattle.legendre.specs.Operations.{mul-is, div-is, add-is, sub-is, neg-value, Summed, summed}
 use Rattle.legendre.specs.Sizes.{grid-most, grid-least, below-overflow}

@@ -2,7 +2,7 @@
 use mathlib.Core.Path.{_≡_, refl}
 use lib.Ieee.{nan, ofBits, mul, lt, eq, ne, neg, toUnsigned}
 use Rattle.laws.specs.Arithmetic.{float, dec, +0, +∞, -∞, 1·0, ε}
-use Rattle.floor.specs.Root.{rootOf}
+use Rattle.root.specs.Root.{rootOf}
 use Rattle.answer.specs.declared.Answer.the-variants.{Pair, Refused}
 use Rattle.legendre.specs.Domain.{byDomain}
 use Rattle.legendre.specs.Piece.{truncatedOf, rowOf, pieceOf}

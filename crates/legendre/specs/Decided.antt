@@ -7,7 +7,7 @@ use lib.Dec.{T, ltb, ltb→lt}
 use lib.Ieee.{Float}
 use Rattle.laws.specs.Arithmetic.{_⊖_, _<·_, _=·_, _≠·_, +0, -∞, 1·0}
 use Rattle.laws.specs.Ladder.{held, passed}
-use Rattle.floor.specs.Root.{rootOf}
+use Rattle.root.specs.Root.{rootOf}
 use Rattle.answer.specs.declared.Answer.{Answer}
 use Rattle.answer.specs.declared.Answer.the-variants.{Refused}
 use Rattle.legendre.specs.Domain.{byDomain, belowOneOf}

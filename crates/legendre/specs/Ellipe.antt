@@ -4,8 +4,8 @@ use Prim.Native.Nat.{ℕ}
 use lib.Ieee.{Float, neg}
 use Rattle.laws.specs.Arithmetic.{_⊕_, _⊖_, _⊗_, _⊘_, _≤·_, float, dec, ½, 1·0, 2·0, 4·0, π, ε}
 use Rattle.laws.specs.Ladder.{when_gives_else_}
-use Rattle.floor.specs.Root.{rootOf}
-use Rattle.floor.specs.Fused.{fusedOf}
+use Rattle.root.specs.Root.{rootOf}
+use Rattle.fused.specs.Fused.{fusedOf}
 use Rattle.answer.specs.Answer.{valueOf}
 use Rattle.answer.specs.declared.Answer.{Answer}
 use Rattle.answer.specs.declared.Answer.the-variants.{One, Infinite}

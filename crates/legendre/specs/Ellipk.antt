@@ -2,7 +2,7 @@
 use mathlib.Core.Bool.{Bool, false}
 use lib.Ieee.{Float}
 use Rattle.laws.specs.Arithmetic.{_⊕_, _⊖_, _⊗_, _⊘_, dec, +0, 1·0, 4·0, π}
-use Rattle.floor.specs.Root.{rootOf}
+use Rattle.root.specs.Root.{rootOf}
 use Rattle.answer.specs.declared.Answer.{Answer}
 use Rattle.answer.specs.declared.Answer.the-variants.{One, Infinite}
 use Rattle.legendre.specs.Domain.{byDomain, belowOneOf}

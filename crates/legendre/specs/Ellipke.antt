@@ -3,7 +3,7 @@ use Prim.Native.Nat.{ℕ}
 use lib.Ieee.{Float}
 use Rattle.laws.specs.Arithmetic.{_⊖_, _⊗_, _⊘_, _≤·_, dec, +0, +∞, 1·0}
 use Rattle.laws.specs.Ladder.{when_gives_else_}
-use Rattle.floor.specs.Root.{rootOf}
+use Rattle.root.specs.Root.{rootOf}
 use Rattle.answer.specs.declared.Answer.{Answer}
 use Rattle.answer.specs.declared.Answer.the-variants.{Pair}
 use Rattle.legendre.specs.Domain.{byDomain, belowOneOf}

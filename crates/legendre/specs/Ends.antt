@@ -12,7 +12,7 @@ use lib.Ieee.Exact.{HasValue}
 use lib.Ieee.Fits.{and-l, and-r}
 use Rattle.laws.specs.Arithmetic.{_⊖_, _⊗_, _⊘_, _≤·_, dec, 1·0}
 use Rattle.laws.specs.Flags.{fails}
-use Rattle.floor.specs.Root.{rootOf}
+use Rattle.root.specs.Root.{rootOf}
 use Rattle.answer.specs.declared.Answer.the-variants.{One}
 use Rattle.legendre.specs.declared.e.Sums.{Sums}
 use Rattle.legendre.specs.Domain.{belowOneOf}

@@ -3,8 +3,8 @@ use mathlib.Core.Bool.{Bool, true, false}
 use Prim.Native.Nat.{ℕ, zero, suc}
 use lib.Ieee.{Float}
 use Rattle.laws.specs.Arithmetic.{_⊕_, _⊖_, _⊗_, _⊘_, _≤·_, 2·0}
-use Rattle.floor.specs.Root.{rootOf}
-use Rattle.floor.specs.Whole.{magnitudeOf}
+use Rattle.root.specs.Root.{rootOf}
+use Rattle.whole.specs.Whole.{magnitudeOf}
 
 -- a round takes x and y to their two means
 unfoldable pub arithmeticOf : Float → Float → Float

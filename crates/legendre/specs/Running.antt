@@ -13,9 +13,9 @@ use lib.Ieee.Scale.{grid, round-under}
 use Rattle.laws.specs.Arithmetic.{_⊕_, _⊖_, _⊗_, float, dec, 1·0}
 use Rattle.laws.specs.Flags.{fails}
 use Rattle.laws.specs.Rounding.{round-value}
-use Rattle.floor.specs.Fused.{fusedOf}
-use Rattle.floor.specs.FusedLaws.{fused-fraction}
-use Rattle.floor.specs.Whole.{magnitudeOf}
+use Rattle.fused.specs.Fused.{fusedOf}
+use Rattle.fused.specs.laws.Meaning.{fused-fraction}
+use Rattle.whole.specs.Whole.{magnitudeOf}
 use Rattle.legendre.specs.Mean.{arithmeticOf, geometricOf, goesOnOf, iterate}
 use Rattle.legendre.specs.Ellipk as k
 use Rattle.legendre.specs.Ellipk.{kFromOf}

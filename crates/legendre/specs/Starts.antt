@@ -15,7 +15,7 @@ use Rattle.laws.specs.Arithmetic.{_⊖_, _⊘_, _≤·_, dec, 1·0}
 use Rattle.laws.specs.Exact.{round-of-value}
 use Rattle.laws.specs.Flags.{fails}
 use Rattle.laws.specs.Rounding.{round-value}
-use Rattle.floor.specs.Root.{rootOf}
+use Rattle.root.specs.Root.{rootOf}
 use Rattle.legendre.specs.Beneath.{split}
 use Rattle.legendre.specs.Places.{Negative, Unit}
 use Rattle.legendre.specs.Operations.{sub-is, div-is}

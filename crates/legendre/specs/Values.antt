@@ -10,7 +10,7 @@ use lib.Ieee.Fits.{add-fits, mul-fits, div-fits, cond-fits}
 use lib.Ieee.Scale.{finite}
 use lib.ListN.{length}
 use Rattle.laws.specs.Arithmetic.{_⊖_, _⊗_, _⊘_, _<·_, _≤·_, _=·_, _≠·_, dec, +0, +∞, -∞, ½, 1·0, 4·0}
-use Rattle.floor.specs.Root.{rootOf}
+use Rattle.root.specs.Root.{rootOf}
 use Rattle.answer.specs.Answer.{refusalOf}
 use Rattle.answer.specs.Sound.{Number, Value, Sound, number-value}
 use Rattle.answer.specs.declared.Answer.{Answer}

@@ -30,7 +30,7 @@ impl Sums {
             x: 1.0,
             y: y0,
             e: e,
-            compensation: floor::fused(mean, mean, -e),
+            compensation: fused::fused(mean, mean, -e),
             power: 0.25,
         }
     }
@@ -101,7 +101,7 @@ pub(crate) fn e_below_one(m: f64) -> f64
     if i < 10 {
         return e_piece(i, m - centre(i));
     }
-    e_mean(floor::root(1.0 - m))
+    e_mean(root::root(1.0 - m))
 }
 
 pub(crate) fn e_negative(c: f64, m1: f64) -> f64

@@ -16,13 +16,13 @@ pub(crate) fn arithmetic(x: f64, y: f64) -> f64
 pub(crate) fn geometric(x: f64, y: f64) -> f64
     ensures { λ r. ⌜ r ≡ geometricOf x y ⌝ }
 {
-    floor::root(x * y)
+    root::root(x * y)
 }
 
 pub(crate) fn goes_on(tolerance: f64, x: f64, y: f64) -> bool
     ensures { λ r. ⌜ r ≡ goesOnOf tolerance x y ⌝ }
 {
-    floor::magnitude(x - y) >= tolerance * floor::magnitude(x)
+    whole::magnitude(x - y) >= tolerance * whole::magnitude(x)
 }
 
 // The two means after some rounds.
@@ -78,5 +78,5 @@ pub(crate) fn k_below_one(m: f64) -> f64
     if i < 10 {
         return k_piece(i, m - centre(i));
     }
-    k_mean(floor::root(1.0 - m))
+    k_mean(root::root(1.0 - m))
 }

@@ -42,7 +42,7 @@ pub(crate) fn both_below_one(m: f64) -> Both
             e: e_piece(i, delta),
         };
     }
-    both_mean(floor::root(1.0 - m))
+    both_mean(root::root(1.0 - m))
 }
 
 fn scaled(c: f64, b: Both) -> Both

@@ -46,7 +46,7 @@ pub fn ellipk(m: Parameter) -> Answer
         return Answer::One(0.0);
     }
     if m < 0.0 {
-        return Answer::One(k_mean(floor::root(1.0 - m)));
+        return Answer::One(k_mean(root::root(1.0 - m)));
     }
     Answer::One(k_below_one(m))
 }
@@ -55,7 +55,7 @@ pub fn ellipk(m: Parameter) -> Answer
 pub fn k_unchecked(m: Parameter) -> f64
     ensures { λ r. ⌜ r ≡ kUncheckedOf (m .0) ⌝ }
 {
-    k_mean(floor::root(1.0 - m.0))
+    k_mean(root::root(1.0 - m.0))
 }
 
 // E(m), DLMF 19.2.8: E(1) = 1, E(-∞) = ∞.
@@ -76,7 +76,7 @@ pub fn ellipe(m: Parameter) -> Answer
         return Answer::Infinite(false);
     }
     if m < 0.0 {
-        return Answer::One(e_negative(floor::root(1.0 - m), m / (m - 1.0)));
+        return Answer::One(e_negative(root::root(1.0 - m), m / (m - 1.0)));
     }
     Answer::One(e_below_one(m))
 }
@@ -99,7 +99,7 @@ pub fn ellipke(m: Parameter) -> Answer
         return Answer::Pair(0.0, f64::from_bits(0x7ff0_0000_0000_0000));
     }
     if m < 0.0 {
-        return pair(both_negative(floor::root(1.0 - m), m / (m - 1.0)));
+        return pair(both_negative(root::root(1.0 - m), m / (m - 1.0)));
     }
     pair(both_below_one(m))
 }

@@ -106,18 +106,18 @@ fn within(good: bool, distance: f64, bound: f64) -> Shown {
 // The function of one argument.
 fn single(kind: u8, x: f64) -> f64 {
     if kind == 1 {
-        return floor::magnitude(x);
+        return whole::magnitude(x);
     }
     if kind == 2 {
-        return floor::trunc(x);
+        return whole::trunc(x);
     }
     if kind == 3 {
-        return floor::floor(x);
+        return whole::floor(x);
     }
     if kind == 4 {
-        return floor::round(x);
+        return whole::round(x);
     }
-    floor::root(x)
+    root::root(x)
 }
 
 // Bit for bit.
@@ -133,7 +133,7 @@ fn agrees_fused(s: &[u8]) -> bool {
     let y = word(s, 17);
     let z = word(s, 34);
     let w = word(s, 51);
-    let r = floor::fused(
+    let r = fused::fused(
         bits::from_pattern(x.value),
         bits::from_pattern(y.value),
         bits::from_pattern(z.value),
@@ -175,8 +175,8 @@ fn agrees_near(kind: u8, s: &[u8]) -> Shown {
     let y = bits::from_pattern(reference.value);
     within(
         a.good & b.good & reference.good & (z.refusal == 0),
-        floor::magnitude(z.first - y),
-        floor::magnitude(y) * 1.4551915228366852e-11,
+        whole::magnitude(z.first - y),
+        whole::magnitude(y) * 1.4551915228366852e-11,
     )
 }
 
@@ -201,7 +201,7 @@ fn agrees_bounded(kind: u8, s: &[u8]) -> Shown {
     let away = z.first - bits::from_pattern(high.value) - bits::from_pattern(low.value);
     within(
         x.good & high.good & low.good & bound.good & (z.refusal == 0),
-        floor::magnitude(away),
+        whole::magnitude(away),
         bits::from_pattern(bound.value),
     )
 }

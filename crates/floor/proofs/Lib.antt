@@ -1,7 +1,0 @@
--- Arguments that the functions' proofs cite.
-pub mod Digits
-pub mod Shifts
-pub mod Places
-pub mod Sums
-pub mod Values
-pub mod Fractions

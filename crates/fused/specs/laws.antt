@@ -1,0 +1,3 @@
+-- What the definition means, and 01's corner.
+pub mod Meaning
+pub mod Corners

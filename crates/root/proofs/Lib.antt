@@ -1,0 +1,3 @@
+-- Arguments that the functions' proofs cite.
+pub mod Trials
+pub mod Values

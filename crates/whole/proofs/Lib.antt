@@ -1,0 +1,2 @@
+-- Arguments that the functions' proofs cite.
+pub mod Fractions

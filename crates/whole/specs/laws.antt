@@ -1,0 +1,3 @@
+-- What the definitions mean, and 01's corners.
+pub mod Meaning
+pub mod Corners

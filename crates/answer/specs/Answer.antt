@@ -1,7 +1,6 @@
 -- What an answer reads out as (01, "Refusal numbers" and "How to write each place"): its number and its two values. Definitions only.
 use Prim.Native.Nat.{ℕ}
-use mathlib.Core.Bool.{Bool, true, false, cond}
-use lib.Ieee.{Float, nan, inf, fin}
+use lib.Ieee.{Float, nan, inf}
 use Rattle.laws.specs.Arithmetic.{+0}
 use Rattle.answer.specs.declared.Answer.{Answer}
 use Rattle.answer.specs.declared.Answer.the-variants.{One, Pair, Infinite, Refused}

@@ -1,6 +1,18 @@
 // What goes into an evaluation and what comes out of it (01, "Taken from the crate, and added").
 ghost use mathlib.Core.Path.{_≡_};
 ghost use Rattle.answer.specs.Answer.{refusalOf, firstOf, secondOf, valueOf};
+ghost use Rattle.answer.specs.Numbers.{stored as Numbers·stored};
+ghost use Rattle.answer.specs.Settle.{infiniteOf, finiteOf, settledOf, handedOf};
+
+// The last function's number; above it is refusal 9.
+pub const LAST: u8 = 6;
+
+// Whether a row may store this refusal number; 0 is none.
+pub fn stored(refusal: u8) -> bool
+    ensures { λ r. ⌜ r ≡ Numbers·stored refusal ⌝ }
+{
+    refusal <= 6
+}
 
 // The three sorts of argument: a call that gives one where another belongs does not build.
 pub struct Amplitude(pub f64);
@@ -24,8 +36,14 @@ pub struct Readout {
     pub second: f64,
 }
 
+// The value of a formula over recipes; it counts only where each of them was met.
+pub struct Term {
+    pub value: f64,
+    pub met: bool,
+}
+
 // ±∞; true is -∞.
-fn infinity(negative: bool) -> f64
+pub fn infinity(negative: bool) -> f64
     ensures { λ r. ⌜ r ≡ firstOf (Answer.Infinite negative) ⌝ }
 {
     if negative {
@@ -74,4 +92,42 @@ pub fn value(answer: Answer) -> f64
         Answer::Infinite(negative) => infinity(negative),
         Answer::Refused(n) => 0.0 / 0.0,
     }
+}
+
+pub fn infinite(v: f64) -> bool
+    ensures { λ r. ⌜ r ≡ infiniteOf v ⌝ }
+{
+    (v == f64::from_bits(0x7ff0_0000_0000_0000)) | (v == f64::from_bits(0xfff0_0000_0000_0000))
+}
+
+fn finite(v: f64) -> Answer
+    ensures { λ r. ⌜ r ≡ finiteOf v ⌝ }
+{
+    if (v != v) | infinite(v) {
+        return Answer::Refused(6);
+    }
+    Answer::One(v)
+}
+
+// A formula whose infinities are no answer: 5 where a recipe was not met, then 6.
+pub fn settled(met: bool, v: f64) -> Answer
+    ensures { λ r. ⌜ r ≡ settledOf met v ⌝ }
+{
+    if !met {
+        return Answer::Refused(5);
+    }
+    finite(v)
+}
+
+// One whose infinities are: 6 for NaN alone.
+pub fn handed(v: f64) -> Answer
+    ensures { λ r. ⌜ r ≡ handedOf v ⌝ }
+{
+    if v != v {
+        return Answer::Refused(6);
+    }
+    if infinite(v) {
+        return Answer::Infinite(v < 0.0);
+    }
+    Answer::One(v)
 }

@@ -10,7 +10,7 @@ use lib.Pow.{pow-pos, pow-mono, shr-lt}
 use lib.Ieee.{binary64, nearest, units, round}
 use lib.Ieee.Fits.{nearest-le}
 use lib.Ieee.Nearest.{nearest-ge}
-use Rattle.laws.specs.Digits.{size-exact}
+use Rattle.laws.specs.laws.Digits.{size-exact}
 use Rattle.bits.specs.Rounded.{Kept}
 use Rattle.bits.specs.Steps.{ordOf, Drop, spare}
 use Rattle.bits.specs.Once.{kept-round}

@@ -8,7 +8,7 @@ use lib.Count.{leadingZeros}
 use lib.Dec.{ltb}
 use lib.Pow.{pow-add, pow-pos, shr-lt, high, low}
 use lib.Ieee.{Float, binary64, round, units}
-use Rattle.laws.specs.Digits.{length, moved, zeros-lt}
+use Rattle.laws.specs.laws.Digits.{length, moved, zeros-lt}
 use Rattle.bits.specs.Rounded.{Kept, roundedOf}
 use Rattle.bits.specs.Steps.{spare}
 use Rattle.bits.specs.Keeping.{kept-cut, kept-self, kept-scaled}

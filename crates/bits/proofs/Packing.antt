@@ -13,9 +13,9 @@ use lib.Ieee.Digits.{size-le}
 use lib.Ieee.Exact.{HasValue, units-val}
 use lib.Ieee.Fits.{odd-fits, inf-fits, down-pos}
 use lib.Ieee.Scale.{overflow}
-use Rattle.laws.specs.Flags.{fails}
-use Rattle.laws.specs.Digits.{pow-lt-back, size-gt}
-use Rattle.laws.specs.Rounding.{units-over}
+use Rattle.laws.specs.laws.Flags.{fails}
+use Rattle.laws.specs.laws.Digits.{pow-lt-back, size-gt}
+use Rattle.laws.specs.laws.Rounding.{units-over}
 
 -- ---- the field and the digits of n smallest values, for p digits
 abbrev written : ℕ → ℕ → ℕ

@@ -7,7 +7,7 @@ use native.Mathlib.Omega.{arith}
 use lib.Arith.{digits-div, digits-mod}
 use lib.Dec.{ltb}
 use lib.Pow.{pow-add, pow-pos, shr-shr, mod-pow-add}
-use Rattle.laws.specs.Flags.{is-some, some-of, none-of, some-sum}
+use Rattle.laws.specs.laws.Flags.{is-some, some-of, none-of, some-sum}
 use Rattle.bits.specs.Rounded.{Kept}
 
 -- ---- to show it

@@ -11,10 +11,10 @@ use lib.Ieee.{Format, binary64, prec, low, size, nearest, units, round}
 use lib.Ieee.Fits.{core, round-is}
 use lib.Ieee.Nearest.{closest, closest-same}
 use lib.Ieee.Scale.{round-same}
-use Rattle.laws.specs.Flags.{some-of, none-of, is-some}
-use Rattle.laws.specs.Compare.{compare-is}
-use Rattle.laws.specs.Digits.{size-gt, size-div, size-cut}
-use Rattle.laws.specs.Rounding.{round-over}
+use Rattle.laws.specs.laws.Flags.{some-of, none-of, is-some}
+use Rattle.laws.specs.laws.Compare.{compare-is}
+use Rattle.laws.specs.laws.Digits.{size-gt, size-div, size-cut}
+use Rattle.laws.specs.laws.Rounding.{round-over}
 use Rattle.bits.specs.Rounded.{Kept, roundedOf}
 use Rattle.bits.specs.Steps.{ordOf}
 use Rattle.bits.specs.Keeping.{kept-digits, kept-all, kept-high, kept-rest, kept-scaled}

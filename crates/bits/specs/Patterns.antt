@@ -5,7 +5,7 @@ use Prim.Native.Nat.{ℕ, _^_, _<_}
 use lib.Dec.{T}
 use lib.Ieee.{Float, nan, inf, fin, binary64, fits, isNan, nanBits, ofBits, toBits}
 use lib.Ieee.Bits.{ofBits-toBits, toBits-ofBits, nanBits-is}
-use Rattle.laws.specs.Flags.{fails}
+use Rattle.laws.specs.laws.Flags.{fails}
 
 -- a pattern that is no NaN's comes back
 pub pattern-back : (b : ℕ) → b < 2 ^ 64 → nanBits binary64 b ≡ false → toBits binary64 (ofBits binary64 b) ≡ b

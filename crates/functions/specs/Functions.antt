@@ -9,13 +9,9 @@ use Rattle.answer.specs.declared.Answer.the-variants.{One, Refused}
 use Rattle.legendre.specs.Ellipk.{ellipkOf}
 use Rattle.legendre.specs.Ellipe.{ellipeOf}
 use Rattle.legendre.specs.Ellipke.{ellipkeOf}
-use Rattle.incomplete.specs.Ellippi.{ellippiOf}
-use Rattle.incomplete.specs.Ellipeinc.{ellipeincOf}
-use Rattle.incomplete.specs.Ellipf.{ellipfOf}
-
--- the last function's number: above it is refusal 9
-abbrev pub last : ℕ
-last = 6
+use Rattle.ellippi.specs.Ellippi.{ellippiOf}
+use Rattle.ellipeinc.specs.Ellipeinc.{ellipeincOf}
+use Rattle.ellipf.specs.Ellipf.{ellipfOf}
 
 -- how many of the three arguments a function reads
 unfoldable pub usedOf : ℕ → ℕ

@@ -1,4 +1,3 @@
--- What the contracts cite, which sort each argument is, and what the sheet needs of every function.
+-- What the contracts cite (Functions), and what is proved of it (laws).
 pub mod Functions
-pub mod Sorts
-pub mod Laws
+pub mod laws

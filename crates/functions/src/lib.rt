@@ -6,9 +6,6 @@ use answer::Parameter;
 ghost use mathlib.Core.Path.{_≡_};
 ghost use Rattle.functions.specs.Functions.{evaluateOf, usedOf};
 
-// The last function's number; above it is refusal 9.
-pub const LAST: u8 = 6;
-
 // How many of the three arguments the function of this number reads.
 pub fn used(function: u8) -> u8
     ensures { λ r. ⌜ r ≡ usedOf function ⌝ }
@@ -34,9 +31,9 @@ pub fn evaluate(function: u8, a: u64, b: u64, c: u64) -> Answer
         1 => legendre::ellipk(Parameter(x)),
         2 => legendre::ellipe(Parameter(x)),
         3 => legendre::ellipke(Parameter(x)),
-        4 => incomplete::ellippi(Characteristic(x), Parameter(y)),
-        5 => incomplete::ellipeinc(Amplitude(x), Parameter(y)),
-        6 => incomplete::ellipf(Amplitude(x), Parameter(y)),
+        4 => ellippi::ellippi(Characteristic(x), Parameter(y)),
+        5 => ellipeinc::ellipeinc(Amplitude(x), Parameter(y)),
+        6 => ellipf::ellipf(Amplitude(x), Parameter(y)),
         _ => Answer::Refused(9),
     }
 }

@@ -7,7 +7,7 @@ use native.Mathlib.Omega.{arith}
 use lib.Count.{leadingZeros, leading-of-zero}
 use lib.Dec.{lit≤, lit<}
 use lib.Pow.{pow-add, pow-pos}
-use Rattle.laws.specs.Digits.{length, moved, zeros-ge, zeros-lt, mul-lt-pow}
+use Rattle.laws.specs.laws.Digits.{length, moved, zeros-ge, zeros-lt, mul-lt-pow}
 use Rattle.bits.specs.Wide.{Halves}
 use Rattle.fused.specs.Steps.{Lifted, Placed, val}
 

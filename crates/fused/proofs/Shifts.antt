@@ -9,8 +9,8 @@ use lib.Arith.{mod-mul, digits-lt, le→nltb}
 use lib.Dec.{ltb, lt→ltb}
 use lib.Ieee.Bits.{is-true, is-false}
 use lib.Pow.{pow-add, pow-pos, pow-mono, shr-lt, shr-shr, mod-pow-add, high, low}
-use Rattle.laws.specs.Flags.{lt-or-le, some-sum}
-use Rattle.laws.specs.Digits.{one-shl}
+use Rattle.laws.specs.laws.Flags.{lt-or-le, some-sum}
+use Rattle.laws.specs.laws.Digits.{one-shl}
 use Rattle.bits.specs.Wide.{Halves}
 use Rattle.fused.specs.Steps.{Shifted, val}
 

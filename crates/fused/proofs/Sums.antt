@@ -8,8 +8,8 @@ use lib.Arith.{mod-mul, digits-lt}
 use lib.Dec.{ltb}
 use lib.Pow.{pow-add, pow-pos, pow-mono, shr-lt}
 use lib.Ieee.{binary64, round, sum}
-use Rattle.laws.specs.Flags.{is-some, some-of, some-sum}
-use Rattle.laws.specs.Sum.{sum-like, sum-unlike, sum-comm, differ-comm}
+use Rattle.laws.specs.laws.Flags.{is-some, some-of, some-sum}
+use Rattle.laws.specs.laws.Sum.{sum-like, sum-unlike, sum-comm, differ-comm}
 use Rattle.bits.specs.Rounded.{Kept, roundedOf}
 use Rattle.bits.specs.Keeping.{kept-split, kept-all, kept-self, kept-sum, kept-diff, kept-pos}
 use Rattle.bits.specs.Once.{rounded-kept, rounded-exact}

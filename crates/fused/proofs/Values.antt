@@ -1,19 +1,13 @@
 -- `fusedOf` by the kinds of its arguments, and by the parts of finite ones. Assumes nothing.
 use mathlib.Core.Path.{_≡_, refl, sym, ap, _∙_}
-use mathlib.Core.Bool.{Bool, true, false, _&&_, Bool·beq, true≢false, false≢true, _||_}
-use Prim.Native.Nat.{ℕ, zero, suc, _+_, _*_, _^_, _<_}
-use native.Mathlib.Nat.{mul-pos, zero-lt-suc, mul-assoc, mul-comm, mul-left-comm}
-use native.Mathlib.Omega.{arith}
-use lib.Dec.{T, ltb, eqb, ltb→lt, lt→ltb, eqb→eq}
-use lib.IntN.{ℤ, pos}
+use mathlib.Core.Bool.{Bool, true, false, _&&_, true≢false, false≢true}
+use Prim.Native.Nat.{ℕ, _+_, _*_, _^_}
+use native.Mathlib.Nat.{mul-pos, mul-assoc, mul-comm, mul-left-comm}
 use lib.Pow.{pow-add, pow-pos}
-use lib.Ieee.{Float, nan, inf, fin, binary64, up, down, lt, eq, sum, unlike, add, mul}
-use lib.Ieee.Bits.{is-true}
+use lib.Ieee.{Float, nan, inf, fin, binary64, sum, unlike, add, mul}
 use lib.Ieee.Exact.{HasValue}
-use lib.Ieee.Fits.{up-pos, and-l, and-i, eq→eqb}
-use lib.Ieee.Positive.{positive, first-pos, value-pos}
 use lib.Ieee.Scale.{finite}
-use Rattle.laws.specs.Sum.{sum-same}
+use Rattle.laws.specs.laws.Sum.{sum-same}
 use Rattle.fused.specs.Fused.{fusedOf}
 use Rattle.fused.specs.laws.Meaning.{fused-fraction}
 

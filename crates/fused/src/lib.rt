@@ -8,13 +8,13 @@ ghost use lib.Ieee.{binary64, sum, unlike};
 ghost use Rattle.bits.specs.Rounded.{roundedOf};
 ghost use Rattle.fused.specs.Fused.{fusedOf};
 ghost use Rattle.fused.specs.Steps.{Lifted, Placed, val, without};
+use bits::Parts;
+use bits::Wide;
 use limbs::Left;
 use limbs::less;
 use limbs::minus;
 use limbs::plus;
 use limbs::shifted;
-use bits::Parts;
-use bits::Wide;
 
 mod limbs;
 

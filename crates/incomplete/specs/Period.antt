@@ -3,7 +3,7 @@ use mathlib.Core.Bool.{cond}
 use lib.Ieee.{Float, neg}
 use Rattle.laws.specs.Arithmetic.{_⊕_, _⊖_, _⊘_, _%%_, _<·_, float, π/2, ½, 1·0, 2·0}
 use Rattle.whole.specs.Whole.{roundOf}
-use Rattle.incomplete.specs.declared.period.Fold.{Fold}
+use Rattle.incomplete.specs.declared.Fold.{Fold}
 
 -- 2^52: a larger |φ| is not reduced
 abbrev pub far-out : Float

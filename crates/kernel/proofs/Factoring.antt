@@ -14,7 +14,7 @@ use lib.Ieee.Exact.{HasValue}
 use lib.Ieee.Fits.{up-pos, down-pos}
 use lib.Ieee.Nearest.{div-same}
 use lib.Ieee.Scale.{round-same}
-use Rattle.laws.specs.Digits.{length, zeros-lt, zeros-ge, moved}
+use Rattle.laws.specs.laws.Digits.{length, zeros-lt, zeros-ge, moved}
 use Rattle.bits.specs.Parts.{Decoded, PartsOf}
 use Rattle.bits.specs.Rounded.{roundedOf}
 use Rattle.answer.specs.declared.Answer.the-variants.{One, Refused}

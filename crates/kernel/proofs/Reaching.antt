@@ -13,9 +13,9 @@ use lib.Ieee.Exact.{HasValue}
 use lib.Ieee.Fits.{down-pos}
 use lib.Ieee.Nearest.{div-same}
 use lib.Ieee.Scale.{finite, round-same}
-use Rattle.laws.specs.Flags.{fails}
-use Rattle.laws.specs.Digits.{pow-lt-back}
-use Rattle.laws.specs.Kinds.{nan-of}
+use Rattle.laws.specs.laws.Flags.{fails}
+use Rattle.laws.specs.laws.Digits.{pow-lt-back}
+use Rattle.laws.specs.laws.Kinds.{nan-of}
 use Rattle.bits.specs.Parts.{PartsOf}
 use Rattle.bits.specs.Rounded.{roundedOf}
 use Rattle.answer.specs.declared.Answer.the-variants.{One, Refused}

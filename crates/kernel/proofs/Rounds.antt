@@ -12,8 +12,8 @@ use lib.Ieee.{Float, nan, inf, fin, binary64, low, up, down, unlike, round, neg,
 use lib.Ieee.Exact.{HasValue, round-exact}
 use lib.Ieee.Order.{round-mono}
 use lib.Ieee.Scale.{grid, normal-of-fraction}
-use Rattle.laws.specs.Exact.{round-neg}
-use Rattle.laws.specs.Rounding.{Near, grid-near, round-value}
+use Rattle.laws.specs.laws.Exact.{round-neg}
+use Rattle.laws.specs.laws.Rounding.{Near, grid-near, round-value}
 use Rattle.kernel.specs.Fractions.{Fraction, Difference, _over_, AtMost, signed, Within}
 use Rattle.kernel.specs.Series.{Close}
 use Rattle.kernel.specs.Alternating.{apart}

@@ -11,7 +11,7 @@ use lib.Ieee.{fin, binary64, up, down, size, fits}
 use lib.Ieee.Digits.{size-lt, size-reaches, size-le}
 use lib.Ieee.Exact.{HasValue}
 use lib.Ieee.Fits.{up-pos, down-pos, and-l, and-r}
-use Rattle.laws.specs.Digits.{size-gt, pow-lt-back}
+use Rattle.laws.specs.laws.Digits.{size-gt, pow-lt-back}
 use Rattle.kernel.specs.Series.{unitsOf, places}
 
 -- 3/4 ≤ N / 2^w < 3/2

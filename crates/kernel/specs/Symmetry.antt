@@ -5,7 +5,7 @@ use Prim.Native.Nat.{ℕ, _*_, _^_}
 use lib.Dec.{ltb}
 use lib.Ieee.{Float, nan, inf, fin, binary64, up, down, unlike, round, neg, ofBits}
 use Rattle.laws.specs.Arithmetic.{+0, 1·0, float}
-use Rattle.laws.specs.Exact.{round-neg}
+use Rattle.laws.specs.laws.Exact.{round-neg}
 use Rattle.answer.specs.declared.Answer.{Answer}
 use Rattle.answer.specs.declared.Answer.the-variants.{One, Pair, Infinite, Refused}
 use Rattle.kernel.specs.Series.{unitsOf, places}

@@ -1,11 +1,5 @@
--- Laws that the kit lacks, and the notation in which later definitions read as arithmetic.
+-- The notation in which later definitions read as arithmetic, as lists of tests and as text; then laws that the kit lacks.
 pub mod Arithmetic
 pub mod Ladder
 pub mod Ascii
-pub mod Flags
-pub mod Compare
-pub mod Digits
-pub mod Kinds
-pub mod Rounding
-pub mod Exact
-pub mod Sum
+pub mod laws

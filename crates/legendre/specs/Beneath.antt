@@ -11,7 +11,7 @@ use lib.Ieee.Digits.{size-reaches}
 use lib.Ieee.Exact.{HasValue, units-val}
 use lib.Ieee.Nearest.{nearest-ge}
 use lib.Ieee.Positive.{positive-of-value}
-use Rattle.laws.specs.Digits.{size-gt}
+use Rattle.laws.specs.laws.Digits.{size-gt}
 use Rattle.root.specs.Root.{wholeRoot, rootOf}
 use Rattle.root.specs.laws.Meaning.{square-lt, whole-root-is, Between, kept, dropped, round-root-is, root-at}
 use Rattle.whole.specs.Whole.{magnitudeOf}

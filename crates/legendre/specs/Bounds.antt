@@ -10,7 +10,7 @@ use lib.Ieee.{Float, binary64, round, sum, neg, unlike}
 use lib.Ieee.Exact.{HasValue}
 use lib.Ieee.Scale.{grid}
 use Rattle.laws.specs.Arithmetic.{_⊕_, _⊖_, _⊗_, _⊘_}
-use Rattle.laws.specs.Rounding.{round-value}
+use Rattle.laws.specs.laws.Rounding.{round-value}
 use Rattle.root.specs.Root.{rootOf}
 use Rattle.legendre.specs.Beneath.{rooted, root-most, root-least}
 use Rattle.legendre.specs.Operations.{mul-is, div-is, add-is, sub-is, neg-value, Summed, summed}

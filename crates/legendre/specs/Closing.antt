@@ -13,7 +13,7 @@ use lib.Ieee.Exact.{HasValue}
 use lib.Ieee.Order.{drop, kept}
 use lib.Ieee.Scale.{grid, overflow, grid-scale, normal-of-fraction}
 use Rattle.laws.specs.Arithmetic.{_⊕_, _⊖_, _⊗_, _⊘_, 1·0, 4·0, π}
-use Rattle.laws.specs.Rounding.{round-value, grid-near, units-over}
+use Rattle.laws.specs.laws.Rounding.{round-value, grid-near, units-over}
 use Rattle.legendre.specs.Ellipk.{kFromOf}
 use Rattle.legendre.specs.Operations.{mul-is, div-is, sub-is}
 use Rattle.legendre.specs.Sizes.{grid-mono, grid-most, grid-least, below-overflow}

@@ -11,7 +11,7 @@ use lib.Ieee.{Float, binary64, fits, ofBits}
 use lib.Ieee.Exact.{HasValue}
 use lib.Ieee.Fits.{and-l, and-r}
 use Rattle.laws.specs.Arithmetic.{_⊖_, _⊗_, _⊘_, _≤·_, dec, 1·0}
-use Rattle.laws.specs.Flags.{fails}
+use Rattle.laws.specs.laws.Flags.{fails}
 use Rattle.root.specs.Root.{rootOf}
 use Rattle.answer.specs.declared.Answer.the-variants.{One}
 use Rattle.legendre.specs.declared.e.Sums.{Sums}

@@ -10,7 +10,7 @@ use lib.Ieee.{Float, binary64, round, ofBits}
 use lib.Ieee.Exact.{HasValue}
 use lib.Ieee.Scale.{grid, normal-of-fraction}
 use Rattle.laws.specs.Arithmetic.{_⊕_, _⊗_, 2·0}
-use Rattle.laws.specs.Rounding.{grid-near, round-value}
+use Rattle.laws.specs.laws.Rounding.{grid-near, round-value}
 use Rattle.legendre.specs.Mean.{arithmeticOf, geometricOf}
 use Rattle.legendre.specs.Operations.{mul-is, div-is}
 use Rattle.legendre.specs.Beneath.{Rooted, rooted, nearest-hi, nearest-lo}

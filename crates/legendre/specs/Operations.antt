@@ -12,8 +12,8 @@ use lib.Ieee.Fits.{up-pos, down-pos}
 use lib.Ieee.Exact.{HasValue}
 use lib.Ieee.Scale.{round-same}
 use Rattle.laws.specs.Arithmetic.{_⊗_, 1·0}
-use Rattle.laws.specs.Exact.{round-of-value}
-use Rattle.laws.specs.Sum.{sum-like, sum-unlike, sum-comm, sum-same}
+use Rattle.laws.specs.laws.Exact.{round-of-value}
+use Rattle.laws.specs.laws.Sum.{sum-like, sum-unlike, sum-comm, sum-same}
 
 pub mul-is : (f : Format) (x y : Float) (s t : Bool) (a b c d : ℕ) → 0 < c → 0 < d → HasValue x s a c → HasValue y t b d → mul f x y ≡ round f (unlike s t) (a * b) (c * d)
 unfolding mul

@@ -13,7 +13,7 @@ use lib.Ieee.Digits.{back}
 use lib.Ieee.Exact.{HasValue}
 use lib.Ieee.Fits.{down-pos, and-l, and-r, and-i, eq→eqb}
 use Rattle.laws.specs.Arithmetic.{_<·_, _=·_, _≠·_, +0, -∞, 1·0}
-use Rattle.laws.specs.Flags.{holds, fails}
+use Rattle.laws.specs.laws.Flags.{holds, fails}
 use Rattle.answer.specs.declared.Answer.{Answer}
 use Rattle.answer.specs.declared.Answer.the-variants.{Refused}
 use Rattle.legendre.specs.Beneath.{pow-back}

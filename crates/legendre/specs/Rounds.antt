@@ -10,7 +10,7 @@ use lib.Ieee.{Float, binary64, round, ofBits, size}
 use lib.Ieee.Exact.{HasValue}
 use lib.Ieee.Scale.{grid}
 use Rattle.laws.specs.Arithmetic.{_⊕_, 1·0, 2·0}
-use Rattle.laws.specs.Rounding.{round-value}
+use Rattle.laws.specs.laws.Rounding.{round-value}
 use Rattle.legendre.specs.Mean.{arithmeticOf, geometricOf, iterate}
 use Rattle.legendre.specs.Sizes.{grid-mono, grid-least, below-overflow}
 use Rattle.legendre.specs.Bounds.{Within, add-plain, within-add, within-mul, within-div, within-root}

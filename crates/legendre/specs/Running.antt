@@ -11,8 +11,8 @@ use lib.Ieee.{Float, binary64, round, ofBits, unlike}
 use lib.Ieee.Exact.{HasValue}
 use lib.Ieee.Scale.{grid, round-under}
 use Rattle.laws.specs.Arithmetic.{_⊕_, _⊖_, _⊗_, float, dec, 1·0}
-use Rattle.laws.specs.Flags.{fails}
-use Rattle.laws.specs.Rounding.{round-value}
+use Rattle.laws.specs.laws.Flags.{fails}
+use Rattle.laws.specs.laws.Rounding.{round-value}
 use Rattle.fused.specs.Fused.{fusedOf}
 use Rattle.fused.specs.laws.Meaning.{fused-fraction}
 use Rattle.whole.specs.Whole.{magnitudeOf}

@@ -12,7 +12,7 @@ use lib.Ieee.Fits.{down-pos, and-l, round-is}
 use lib.Ieee.Exact.{HasValue, round-exact}
 use lib.Ieee.Order.{transfer, round-mono, le-of-values, drop, kept}
 use lib.Ieee.Scale.{grid, overflow, finite, round-under}
-use Rattle.laws.specs.Rounding.{round-value, units-over}
+use Rattle.laws.specs.laws.Rounding.{round-value, units-over}
 
 -- ---- the units of a value
 cancel : (a b d : ℕ) → 0 < d → a * d ≡ b * d → a ≡ b

@@ -12,9 +12,9 @@ use lib.Ieee.Exact.{HasValue}
 use lib.Ieee.Fits.{down-pos, and-l, and-r}
 use lib.Ieee.Scale.{grid, overflow}
 use Rattle.laws.specs.Arithmetic.{_⊖_, _⊘_, _≤·_, dec, 1·0}
-use Rattle.laws.specs.Exact.{round-of-value}
-use Rattle.laws.specs.Flags.{fails}
-use Rattle.laws.specs.Rounding.{round-value}
+use Rattle.laws.specs.laws.Exact.{round-of-value}
+use Rattle.laws.specs.laws.Flags.{fails}
+use Rattle.laws.specs.laws.Rounding.{round-value}
 use Rattle.root.specs.Root.{rootOf}
 use Rattle.legendre.specs.Beneath.{split}
 use Rattle.legendre.specs.Places.{Negative, Unit}

@@ -12,7 +12,7 @@ use lib.Ieee.Exact.{HasValue}
 use lib.Ieee.Fits.{and-l, and-r}
 use lib.Ieee.Scale.{grid, normal-of-rounded}
 use Rattle.laws.specs.Arithmetic.{_⊖_, _⊗_, _≤·_, dec}
-use Rattle.laws.specs.Rounding.{grid-near, round-value}
+use Rattle.laws.specs.laws.Rounding.{grid-near, round-value}
 use Rattle.whole.specs.Whole.{magnitudeOf}
 use Rattle.legendre.specs.Mean.{goesOnOf}
 use Rattle.legendre.specs.Ellipe.{eTolerance}

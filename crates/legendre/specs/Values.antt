@@ -12,7 +12,8 @@ use lib.ListN.{length}
 use Rattle.laws.specs.Arithmetic.{_⊖_, _⊗_, _⊘_, _<·_, _≤·_, _=·_, _≠·_, dec, +0, +∞, -∞, ½, 1·0, 4·0}
 use Rattle.root.specs.Root.{rootOf}
 use Rattle.answer.specs.Answer.{refusalOf}
-use Rattle.answer.specs.Sound.{Number, Value, Sound, number-value}
+use Rattle.answer.specs.Sound.{Number, Value, Sound}
+use Rattle.answer.specs.laws.Sound.{number-value}
 use Rattle.answer.specs.declared.Answer.{Answer}
 use Rattle.answer.specs.declared.Answer.the-variants.{Refused}
 use Rattle.legendre.specs.declared.ke.Both.{Both}

@@ -10,9 +10,9 @@ use lib.Count.{leadingZeros}
 use lib.Dec.{ltb, lit<, lit≤}
 use lib.Pow.{pow-add, pow-pos, pow-mono}
 use lib.Ieee.{binary64, size, nearest, units}
-use Rattle.laws.specs.Flags.{lt-or-le, some-of, none-of}
-use Rattle.laws.specs.Compare.{compare-is, compare-scaled}
-use Rattle.laws.specs.Digits.{length, moved, size-exact, zeros-ge}
+use Rattle.laws.specs.laws.Flags.{lt-or-le, some-of, none-of}
+use Rattle.laws.specs.laws.Compare.{compare-is, compare-scaled}
+use Rattle.laws.specs.laws.Digits.{length, moved, size-exact, zeros-ge}
 use Rattle.bits.specs.Rounded.{roundedOf}
 use Rattle.bits.specs.Steps.{ordOf}
 use Rattle.bits.specs.Once.{kept-round, with-half}

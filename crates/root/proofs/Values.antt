@@ -1,19 +1,19 @@
 -- `rootOf` by the kinds of its argument, and by the parts of a finite one. Assumes nothing.
-use mathlib.Core.Path.{_≡_, refl, sym, ap, _∙_}
+use mathlib.Core.Path.{_≡_, refl, sym, _∙_}
 use mathlib.Core.Bool.{Bool, true, false, _&&_, Bool·beq, true≢false, false≢true, _||_}
 use Prim.Native.Nat.{ℕ, zero, suc, _+_, _*_, _^_, _<_}
-use native.Mathlib.Nat.{mul-pos, zero-lt-suc, mul-assoc, mul-comm, mul-left-comm}
+use native.Mathlib.Nat.{mul-pos, zero-lt-suc}
 use native.Mathlib.Omega.{arith}
 use lib.Dec.{T, ltb, eqb, ltb→lt, lt→ltb, eqb→eq}
 use lib.IntN.{ℤ, pos}
-use lib.Pow.{pow-add, pow-pos}
-use lib.Ieee.{Float, nan, inf, fin, binary64, up, down, lt, eq, sum, unlike, add, mul}
+use lib.Pow.{pow-pos}
+use lib.Ieee.{Float, nan, inf, fin, up, down, lt, eq}
 use lib.Ieee.Bits.{is-true}
 use lib.Ieee.Exact.{HasValue}
 use lib.Ieee.Fits.{up-pos, and-l, and-i, eq→eqb}
 use lib.Ieee.Positive.{positive, first-pos, value-pos}
 use lib.Ieee.Scale.{finite}
-use Rattle.laws.specs.Flags.{holds}
+use Rattle.laws.specs.laws.Flags.{holds}
 use Rattle.root.specs.Root.{rootOf}
 
 -- ---- what the tests against zero say

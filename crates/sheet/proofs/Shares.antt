@@ -7,7 +7,7 @@ use native.Mathlib.Omega.{arith}
 use borrow.Author.Tests.{eq-eqb, ne-eqb, lt-ltb, le-ltb, le-leb, lt-leb}
 use lib.Ieee.{Float, nan, inf, fin, eq, ne, isNan, ofBits}
 use Rattle.laws.specs.Arithmetic.{+0, +∞, -∞}
-use Rattle.laws.specs.Kinds.{nan-of}
+use Rattle.laws.specs.laws.Kinds.{nan-of}
 use Rattle.functions.specs.Functions.{last}
 use Rattle.sheet.specs.Bytes.{bytes, fields}
 use Rattle.sheet.specs.Sheet.{Row, functionIn, refusalIn, firstIn, kindOf, classOf, valueOf, sound, rowBytes}

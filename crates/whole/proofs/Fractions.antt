@@ -13,9 +13,9 @@ use lib.Ieee.Bits.{ofBits-toBits, toBits-lt, nanBits-is}
 use lib.Ieee.Exact.{HasValue}
 use lib.Ieee.Fits.{neg-fits}
 use lib.Ieee.Scale.{finite}
-use Rattle.laws.specs.Exact.{round-neg}
-use Rattle.laws.specs.Flags.{holds, fails, both-true}
-use Rattle.laws.specs.Digits.{one-shl}
+use Rattle.laws.specs.laws.Exact.{round-neg}
+use Rattle.laws.specs.laws.Flags.{holds, fails, both-true}
+use Rattle.laws.specs.laws.Digits.{one-shl}
 use Rattle.bits.specs.Parts.{Decoded, PartsOf}
 use Rattle.whole.specs.Whole.{magnitudeOf, truncOf, floorOf, roundOf, ceiling, halfUp}
 use Rattle.whole.specs.laws.Meaning.{trunc-fraction, floor-fraction, round-fraction}

@@ -1,3 +1,4 @@
--- What the definitions mean, and 01's corners.
+-- What the definitions mean, magnitude by its cases, and 01's corners.
 pub mod Meaning
+pub mod Magnitude
 pub mod Corners

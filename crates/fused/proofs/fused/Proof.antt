@@ -3,7 +3,7 @@ use mathlib.Core.Path.{_≡_, sym, _∙_}
 use mathlib.Core.Bool.{true, _&&_}
 use borrow.Author.Needs.{needs}
 use lib.Ieee.Scale.{finite}
-use Rattle.laws.specs.Flags.{both-true}
+use Rattle.laws.specs.laws.Flags.{both-true}
 use Rattle.bits.specs.Parts.{Decoded}
 use Rattle.fused.proofs.Values.{fused-finite, fused-addend, fused-factor}
 use Rattle.fused.proofs.fused.Statement.{statement}

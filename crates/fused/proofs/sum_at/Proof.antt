@@ -6,7 +6,7 @@ use native.Mathlib.Nat.{le-trans, le-of-eq, le-of-lt, add-zero}
 use lib.Dec.{ltb, ltb→lt, nltb→le}
 use lib.Ieee.{Float, binary64, sum}
 use borrow.Author.Needs.{needs}
-use Rattle.laws.specs.Flags.{holds, fails}
+use Rattle.laws.specs.laws.Flags.{holds, fails}
 use Rattle.bits.specs.Rounded.{roundedOf}
 use Rattle.fused.specs.Steps.{val, without}
 use Rattle.fused.proofs.Sums as sums

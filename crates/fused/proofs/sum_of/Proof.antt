@@ -2,7 +2,7 @@
 use mathlib.Core.Path.{_∙_}
 use lib.Ieee.{binary64}
 use borrow.Author.Needs.{needs}
-use Rattle.laws.specs.Sum.{sum-comm}
+use Rattle.laws.specs.laws.Sum.{sum-comm}
 use Rattle.fused.proofs.sum_of.Statement.{statement}
 use Rattle.fused.proofs.sum_of.Tie as tie
 

@@ -5,7 +5,7 @@ use Prim.Native.Nat.{ℕ, _+_, _-_, _^_, _≤_}
 use lib.Dec.{ltb}
 use lib.Pow.{pow-pos}
 use borrow.Author.Needs.{needs}
-use Rattle.laws.specs.Flags.{some-sum}
+use Rattle.laws.specs.laws.Flags.{some-sum}
 use Rattle.bits.specs.Rounded.{roundedOf}
 use Rattle.fused.specs.Steps.{val, without}
 use Rattle.fused.proofs.take.Statement.{statement}

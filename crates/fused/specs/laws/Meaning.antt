@@ -8,8 +8,8 @@ use lib.Ieee.{Float, nan, inf, fin, binary64, up, down, unlike, round, sum, add,
 use lib.Ieee.Exact.{HasValue}
 use lib.Ieee.Fits.{down-pos}
 use Rattle.laws.specs.Arithmetic.{_⊕_, 1·0}
-use Rattle.laws.specs.Flags.{signed}
-use Rattle.laws.specs.Sum.{sum-same, sum-like, sum-unlike, sum-comm, differ-comm}
+use Rattle.laws.specs.laws.Flags.{signed}
+use Rattle.laws.specs.laws.Sum.{sum-same, sum-like, sum-unlike, sum-comm, differ-comm}
 use Rattle.fused.specs.Fused.{fusedOf}
 
 -- ---- x = ±a / c, y = ±b / d, z = ±k / g

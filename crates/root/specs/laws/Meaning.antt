@@ -12,8 +12,8 @@ use lib.Ieee.Exact.{HasValue, units-val}
 use lib.Ieee.Fits.{down-pos, nearest-le, kept-lt}
 use lib.Ieee.Positive.{positive}
 use lib.Ieee.Scale.{overflow}
-use Rattle.laws.specs.Exact.{fits-bounds}
-use Rattle.laws.specs.Compare.{Compared, compared}
+use Rattle.laws.specs.laws.Exact.{fits-bounds}
+use Rattle.laws.specs.laws.Compare.{Compared, compared}
 use Rattle.root.specs.Root.{rootIn, wholeRoot, roundRoot, rootOf}
 
 -- ---- squares keep the order

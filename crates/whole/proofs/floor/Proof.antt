@@ -5,7 +5,7 @@ use Prim.Native.Nat.{ℕ, _-_, _^_, _<_}
 use native.Mathlib.Omega.{arith}
 use native.Mathlib.Nat.{le-of-lt}
 use borrow.Author.Needs.{needs}
-use Rattle.laws.specs.Flags.{holds}
+use Rattle.laws.specs.laws.Flags.{holds}
 use Rattle.whole.specs.Whole.{floorOf}
 use Rattle.whole.specs.laws.Meaning.{floor-other, floor-large}
 use Rattle.whole.proofs.Fractions.{decoded, under, stays, floor-low}

@@ -1,8 +1,8 @@
 -- `magnitude` meets its contract: without the sign's bit a pattern is that of the magnitude.
 use lib.Dec.{T}
 use lib.Ieee.{binary64, fits}
-use Rattle.laws.specs.Flags.{holds}
-use Rattle.laws.specs.Kinds.{nan-of, not-nan}
+use Rattle.laws.specs.laws.Flags.{holds}
+use Rattle.laws.specs.laws.Kinds.{nan-of, not-nan}
 use Rattle.whole.proofs.Fractions.{magnitude-nan, magnitude-masked, masked-no-nan}
 use Rattle.whole.proofs.magnitude.Statement.{statement}
 use Rattle.whole.proofs.magnitude.Tie as tie

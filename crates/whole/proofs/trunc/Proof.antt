@@ -2,7 +2,7 @@
 use mathlib.Core.Path.{_∙_}
 use native.Mathlib.Nat.{le-of-lt}
 use borrow.Author.Needs.{needs}
-use Rattle.laws.specs.Flags.{holds}
+use Rattle.laws.specs.laws.Flags.{holds}
 use Rattle.whole.specs.Whole.{truncOf}
 use Rattle.whole.specs.laws.Meaning.{trunc-other, trunc-large}
 use Rattle.whole.proofs.Fractions.{decoded, under, stays, trunc-low}

@@ -7,8 +7,8 @@ use native.Mathlib.Omega.{arith}
 use lib.Dec.{lit≤}
 use lib.Pow.{pow-pos}
 use borrow.Author.Needs.{needs}
-use Rattle.laws.specs.Flags.{is-some, is-none}
-use Rattle.laws.specs.Digits.{one-shl}
+use Rattle.laws.specs.laws.Flags.{is-some, is-none}
+use Rattle.laws.specs.laws.Digits.{one-shl}
 use Rattle.whole.proofs.Fractions.{lower-le, upper-far, upper-near, upper-le}
 use Rattle.whole.proofs.upper.Statement.{statement}
 use Rattle.whole.proofs.upper.Tie as tie

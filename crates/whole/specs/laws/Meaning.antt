@@ -13,8 +13,8 @@ use lib.Ieee.Exact.{HasValue, round-exact}
 use lib.Ieee.Fits.{down-pos}
 use lib.Ieee.Nearest.{div-same}
 use lib.Ieee.Scale.{finite}
-use Rattle.laws.specs.Exact.{fits-bounds, round-self, round-of-value}
-use Rattle.laws.specs.Flags.{lt-or-le, is-some, some-of, none-of}
+use Rattle.laws.specs.laws.Exact.{fits-bounds, round-self, round-of-value}
+use Rattle.laws.specs.laws.Flags.{lt-or-le, is-some, some-of, none-of}
 use Rattle.whole.specs.Whole.{truncOf, floorOf, roundOf, ceiling, halfUp}
 
 -- ---- the whole numbers themselves

@@ -3,7 +3,7 @@ use native.Mathlib.Omega.{arith}
 use lib.Dec.{T}
 use lib.Ieee.{binary64, fits}
 use borrow.Author.Needs.{needs}
-use Rattle.laws.specs.Flags.{holds}
+use Rattle.laws.specs.laws.Flags.{holds}
 use Rattle.bits.proofs.Reading.{digits-lt, parts-none, parts-low, parts-high}
 use Rattle.bits.proofs.decoding.parts.Statement.{statement}
 use Rattle.bits.proofs.decoding.parts.Tie as tie

@@ -7,7 +7,7 @@ use lib.Dec.{ltb, lt→ltb}
 use lib.Ieee.{Float, nan, inf, fin, binary64, isNan, ofBits, div}
 use lib.Ieee.Bits.{nanBits-is, nanBits-above, is-true, is-false}
 use borrow.Author.Needs.{needs}
-use Rattle.laws.specs.Flags.{fails}
+use Rattle.laws.specs.laws.Flags.{fails}
 use Rattle.bits.proofs.pattern.from_pattern.Statement.{statement}
 use Rattle.bits.proofs.pattern.from_pattern.Tie as tie
 

@@ -2,7 +2,7 @@
 use mathlib.Core.Path.{sym, ap}
 use lib.Ieee.{binary64, toBits}
 use borrow.Author.Needs.{needs}
-use Rattle.laws.specs.Kinds.{nan-of, not-nan}
+use Rattle.laws.specs.laws.Kinds.{nan-of, not-nan}
 use Rattle.bits.proofs.pattern.to_pattern.Statement.{statement}
 use Rattle.bits.proofs.pattern.to_pattern.Tie as tie
 

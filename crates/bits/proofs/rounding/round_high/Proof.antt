@@ -4,7 +4,7 @@ use Prim.Native.Nat.{ℕ, _+_, _-_, _*_, _%_, _^_, _<_, _≤_}
 use native.Mathlib.Omega.{arith}
 use lib.Count.{leadingZeros}
 use borrow.Author.Needs.{needs}
-use Rattle.laws.specs.Digits.{zeros-lt}
+use Rattle.laws.specs.laws.Digits.{zeros-lt}
 use Rattle.bits.proofs.Limbs.{no-zeros, kept-top, lead-fits, kept-lead}
 use Rattle.bits.proofs.rounding.round_high.Statement.{statement}
 use Rattle.bits.proofs.rounding.round_high.Tie as tie

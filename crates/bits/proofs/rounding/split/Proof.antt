@@ -3,7 +3,7 @@ use mathlib.Core.Path.{refl, sym, ap, subst}
 use Prim.Native.Nat.{ℕ, _%_, _<_}
 use lib.Pow.{pow-pos}
 use borrow.Author.Needs.{needs}
-use Rattle.laws.specs.Digits.{one-shl}
+use Rattle.laws.specs.laws.Digits.{one-shl}
 use Rattle.bits.proofs.rounding.split.Statement.{statement}
 use Rattle.bits.proofs.rounding.split.Tie as tie
 

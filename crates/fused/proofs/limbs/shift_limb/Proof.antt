@@ -4,7 +4,7 @@ use Prim.Native.Nat.{ℕ, _-_, _≤_, _<_}
 use native.Mathlib.Omega.{arith}
 use lib.Pow.{pow-pos}
 use borrow.Author.Needs.{needs}
-use Rattle.laws.specs.Digits.{one-shl}
+use Rattle.laws.specs.laws.Digits.{one-shl}
 use Rattle.fused.proofs.Shifts.{shifted-limb}
 use Rattle.fused.proofs.limbs.shift_limb.Statement.{statement}
 use Rattle.fused.proofs.limbs.shift_limb.Tie as tie

@@ -3,7 +3,7 @@ use mathlib.Core.Path.{sym, subst}
 use Prim.Native.Nat.{ℕ, _<_}
 use lib.Pow.{pow-pos}
 use borrow.Author.Needs.{needs}
-use Rattle.laws.specs.Digits.{one-shl}
+use Rattle.laws.specs.laws.Digits.{one-shl}
 use Rattle.fused.proofs.Shifts.{some-fits, shifted-some}
 use Rattle.fused.proofs.limbs.shift_some.Statement.{statement}
 use Rattle.fused.proofs.limbs.shift_some.Tie as tie

@@ -1,7 +1,7 @@
 -- `cosine` meets its contract, as `sine` does.
 use native.Mathlib.Omega.{arith}
 use borrow.Author.Needs.{needs}
-use Rattle.laws.specs.Flags.{holds}
+use Rattle.laws.specs.laws.Flags.{holds}
 use Rattle.kernel.specs.Cosine.{cosineAt, cosineOf}
 use Rattle.kernel.proofs.Reaching.{not-refused, view-square, is-cosine}
 use Rattle.kernel.proofs.Near.{cosine-promise}

@@ -2,7 +2,7 @@
 use Prim.Native.Nat.{_+_, _*_, _^_}
 use native.Mathlib.Omega.{arith}
 use borrow.Author.Needs.{needs}
-use Rattle.laws.specs.Flags.{holds}
+use Rattle.laws.specs.laws.Flags.{holds}
 use Rattle.kernel.specs.Sine.{sineAt, sineOf}
 use Rattle.kernel.proofs.Reaching.{not-refused, view-square, is-sine}
 use Rattle.kernel.proofs.Near.{sine-promise}

@@ -1,8 +1,8 @@
 -- `logarithm` meets its contract: its tests and calls give the steps (`Factoring`), and these lie near the sum (`LogNear`).
 use mathlib.Core.Path.{sym, ap}
 use borrow.Author.Needs.{needs}
-use Rattle.laws.specs.Flags.{holds}
-use Rattle.laws.specs.Kinds.{nan-of}
+use Rattle.laws.specs.laws.Flags.{holds}
+use Rattle.laws.specs.laws.Kinds.{nan-of}
 use Rattle.kernel.specs.Logarithm.{logarithmOf}
 use Rattle.kernel.proofs.Factoring.{refused, bounds, answered}
 use Rattle.kernel.proofs.LogNear.{log-promise}

@@ -8,7 +8,7 @@ use lib.Ieee.{Float}
 use lib.Dec.{ltb, ltb→lt, nltb→le}
 use lib.Pow.{pow-pos, pow-mono, shl-lt}
 use borrow.Author.Needs.{needs}
-use Rattle.laws.specs.Flags.{holds, fails}
+use Rattle.laws.specs.laws.Flags.{holds, fails}
 use Rattle.bits.specs.Rounded.{roundedOf}
 use Rattle.kernel.specs.Alternating.{apart}
 use Rattle.kernel.specs.Logarithm.{logarithmAt}

@@ -4,7 +4,7 @@ use Prim.Native.Nat.{ℕ, _-_, _<_, _≤_}
 use native.Mathlib.Nat.{le-antisymm, le-of-eq}
 use native.Mathlib.Omega.{arith}
 use lib.ListN.{length, take}
-use Rattle.laws.specs.Flags.{is-some, is-none}
+use Rattle.laws.specs.laws.Flags.{is-some, is-none}
 use Rattle.total.specs.Total.{val}
 use Rattle.total.proofs.FirstLimbs.{val-none, zero-next, some-at}
 use Rattle.total.proofs.rounding.any_below.Statement.{statement}

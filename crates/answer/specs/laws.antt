@@ -1,0 +1,5 @@
+-- Of answers: sound ones, the tests that settle them, which a function may give, and those of an odd function.
+pub mod Sound
+pub mod Tests
+pub mod Fair
+pub mod Odd

@@ -1,0 +1,47 @@
+-- The answer for -φ beside that for φ: what an odd function's tests and arms need. Assumes nothing.
+use mathlib.Core.Path.{_≡_, refl, sym, ap, _∙_}
+use mathlib.Core.Bool.{Bool, true, false, not, cond}
+use lib.Ieee.{Float, nan, inf, fin, neg, isNan}
+use Rattle.laws.specs.Arithmetic.{_≠·_, 1·0}
+use Rattle.laws.specs.laws.Kinds.{differs-is}
+use Rattle.laws.specs.laws.Signs.{neg-neg}
+use Rattle.answer.specs.declared.Answer.{Answer}
+use Rattle.answer.specs.declared.Answer.the-variants.{One, Pair, Infinite, Refused}
+use Rattle.answer.specs.Settle.{handedOf}
+
+-- the answer for -φ; refusals alike
+unfoldable pub turnOf : Answer → Answer
+turnOf (One x) = One (neg x)
+turnOf (Pair x y) = Pair (neg x) (neg y)
+turnOf (Infinite s) = Infinite (not s)
+turnOf (Refused n) = Refused n
+
+pub same-kind : (φ : Float) → (neg φ ≠· neg φ) ≡ (φ ≠· φ)
+unfolding neg isNan
+same-kind φ = differs-is (neg φ) ∙ kind φ ∙ sym (differs-is φ)
+  where
+    kind : (φ : Float) → isNan (neg φ) ≡ isNan φ
+    kind nan = refl
+    kind (inf s) = refl
+    kind (fin s m e) = refl
+
+pub one-turned : (b : Bool) → cond (not b) (neg 1·0) 1·0 ≡ neg (cond b (neg 1·0) 1·0)
+one-turned true = sym (neg-neg 1·0)
+one-turned false = refl
+
+-- down the tests, arm by arm
+pub rung : (t u : Bool) (a b c d : Answer) → t ≡ u → a ≡ turnOf c → b ≡ turnOf d → cond t a b ≡ turnOf (cond u c d)
+rung t u a b c d e p q = ap (λ (t : Bool). cond t a b) e ∙ go u
+  where
+    go : (u : Bool) → cond u a b ≡ turnOf (cond u c d)
+    go true = p
+    go false = q
+
+pub handed-odd : (u v : Float) → u ≡ neg v → handedOf u ≡ turnOf (handedOf v)
+unfolding handedOf turnOf neg
+handed-odd u v e = ap handedOf e ∙ go v
+  where
+    go : (v : Float) → handedOf (neg v) ≡ turnOf (handedOf v)
+    go nan = refl
+    go (inf s) = refl
+    go (fin s m e) = refl

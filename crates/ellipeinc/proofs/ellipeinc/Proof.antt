@@ -1,0 +1,58 @@
+-- Down 01's list of tests: the i-th return passed the tests before its own.
+use mathlib.Core.Path.{refl}
+use Rattle.laws.specs.Ladder.{held, passed}
+use Rattle.ellipeinc.specs.Ellipeinc.{ellipeincOf}
+use borrow.Author.Needs.{needs}
+use Rattle.ellipeinc.proofs.ellipeinc.Statement.{statement}
+use Rattle.ellipeinc.proofs.ellipeinc.Tie as tie
+
+returns : tie.Need-returns
+unfolding ellipeincOf
+returns c = held _ _ (c .if1 .taken) refl
+
+returns-2 : tie.Need-returns-2
+unfolding ellipeincOf
+returns-2 c =
+    let t2 = c .before in
+    let t1 = t2 .before in
+    passed _ _ (t1 .if1 .left) (held _ _ (t2 .if2 .taken) (c .itself .ensures))
+
+returns-3 : tie.Need-returns-3
+unfolding ellipeincOf
+returns-3 c =
+    let t3 = c in
+    let t2 = t3 .before in
+    let t1 = t2 .before in
+    rw (← t1 .before .magnitude .ensures) (passed _ _ (t1 .if1 .left) (passed _ _ (t2 .if2 .left) (held _ _ (t3 .if3 .taken) refl)))
+
+returns-4 : tie.Need-returns-4
+unfolding ellipeincOf
+returns-4 c =
+    let t4 = c in
+    let t3 = t4 .before in
+    let t2 = t3 .before in
+    let t1 = t2 .before in
+    rw (← t1 .before .magnitude .ensures) (passed _ _ (t1 .if1 .left) (passed _ _ (t2 .if2 .left) (passed _ _ (t3 .if3 .left) (held _ _ (t4 .if4 .taken) refl))))
+
+returns-5 : tie.Need-returns-5
+unfolding ellipeincOf
+returns-5 c =
+    let t5 = c in
+    let t4 = t5 .before in
+    let t3 = t4 .before in
+    let t2 = t3 .before in
+    let t1 = t2 .before in
+    rw (← t1 .before .magnitude .ensures) (passed _ _ (t1 .if1 .left) (passed _ _ (t2 .if2 .left) (passed _ _ (t3 .if3 .left) (passed _ _ (t4 .if4 .left) (held _ _ (t5 .if5 .taken) refl)))))
+
+returns-6 : tie.Need-returns-6
+unfolding ellipeincOf
+returns-6 c =
+    let t5 = c .before .before in
+    let t4 = t5 .before in
+    let t3 = t4 .before in
+    let t2 = t3 .before in
+    let t1 = t2 .before in
+    rw (← t1 .before .magnitude .ensures, ← c .before .sign .ensures) (passed _ _ (t1 .if1 .left) (passed _ _ (t2 .if2 .left) (passed _ _ (t3 .if3 .left) (passed _ _ (t4 .if4 .left) (passed _ _ (t5 .if5 .left) (c .on-size .ensures))))))
+
+pub ellipeinc-spec : {M : Type 1} → statement M
+ellipeinc-spec = tie.close (tie.spec (λ c κs. search needs) returns (λ c κs. search needs) returns-2 returns-3 returns-4 returns-5 (λ c κs. search needs) (λ c κs. search needs) returns-6)

@@ -1,0 +1,116 @@
+-- ellipeinc (01, "ellipeinc, in this order"); each step has the operations of ellipeinc.rs, in its order. Definitions only.
+use mathlib.Core.Bool.{Bool, true, cond, not, _||_, _&&_}
+use lib.Ieee.{Float, neg}
+use Rattle.laws.specs.Arithmetic.{_⊕_, _⊖_, _⊗_, _⊘_, _%%_, _<·_, _≤·_, _=·_, _≠·_, +0, most, π, ε, 1·0, 2·0, 3·0}
+use Rattle.laws.specs.Ladder.{when_gives_else_}
+use Rattle.answer.specs.Answer.{valueOf}
+use Rattle.answer.specs.declared.Answer.{Answer}
+use Rattle.answer.specs.declared.Answer.the-variants.{One, Infinite, Refused}
+use Rattle.root.specs.Root.{rootOf}
+use Rattle.whole.specs.Whole.{magnitudeOf, floorOf, roundOf}
+use Rattle.kernel.specs.Sine.{sineOf}
+use Rattle.kernel.specs.Cosine.{cosineOf}
+use Rattle.legendre.specs.Ellipe.{ellipeOf}
+use Rattle.carlson.specs.Rf.{rfOf}
+use Rattle.carlson.specs.Rd.{rdOf}
+use Rattle.answer.specs.Settle.{handedOf}
+use Rattle.incomplete.specs.Period.{far-out, foldedOf}
+use Rattle.answer.specs.declared.Term.{Term}
+use Rattle.incomplete.specs.declared.Fold.{Fold}
+
+-- the file's `invert`
+unfoldable pub signOf : Float → Float
+signOf φ = cond (φ <· +0) (neg 1·0) 1·0
+
+-- step 2
+unfoldable pub itselfOf : Float → Answer
+itselfOf φ =
+    when φ ≠· φ gives Refused 1 else
+    handedOf φ
+
+-- step 5
+unfoldable pub farOf : Float → Float → Float → Answer
+farOf sign size m =
+    when 1·0 <· m gives Refused 2 else
+    handedOf (sign ⊗ 2·0 ⊗ size ⊗ valueOf (ellipeOf m) ⊘ π)
+
+-- step 6: twice the whole periods and the squared sine of half the rest
+abbrev pub halfRest : Float → Float
+halfRest size = size %% π ⊘ 2·0
+
+unfoldable pub steepOf : Float → Float → Float → Answer
+steepOf sign size m =
+    let periods = floorOf (size ⊘ π) in
+    let h = valueOf (sineOf (halfRest size)) in
+    handedOf (sign ⊗ (2·0 ⊗ (periods ⊕ h ⊗ h)) ⊗ rootOf (neg m))
+
+-- step 7: mm is the rounded |φ| / π
+abbrev pub halfTurns : Float → Float
+halfTurns size = roundOf (size ⊘ π)
+
+abbrev pub lineRest : Float → Float
+lineRest size = size ⊖ halfTurns size ⊗ π
+
+unfoldable pub lineOf : Float → Float → Answer
+lineOf sign size = handedOf (sign ⊗ (2·0 ⊗ halfTurns size ⊕ valueOf (sineOf (lineRest size))))
+
+-- step 8: the angle stands for its own integral
+unfoldable pub ownOf : Float → Float → Bool
+ownOf angle m = angle =· +0 || magnitudeOf m ⊗ angle ⊗ angle <· ε
+
+-- c = 1 / sin² and c1 = cos² / sin², which is c - 1: for m < 0 (DLMF 19.25.9)
+unfoldable pub belowOf : Float → Float → Float → Term
+belowOf m c c1 =
+    let f = rfOf c1 (c ⊖ m) c in
+    let d = rdOf c1 (c ⊖ m) c in
+    record { value = f .value ⊖ m ⊗ d .value ⊘ 3·0; met = f .met && d .met }
+
+-- and for m > 0 (DLMF 19.25.10)
+unfoldable pub aboveOf : Float → Float → Float → Term
+aboveOf m c c1 =
+    let f = rfOf c1 c (c ⊖ m) in
+    let d = rdOf c1 c (c ⊖ m) in
+    record { value = (1·0 ⊖ m) ⊗ f .value ⊕ m ⊗ (1·0 ⊖ m) ⊗ d .value ⊘ 3·0 ⊕ m ⊗ rootOf (c1 ⊘ (c ⊗ (c ⊖ m))); met = f .met && d .met }
+
+unfoldable pub recipeOf : Float → Float → Float → Term
+recipeOf m s2 c2 = cond (m <· +0) (belowOf m (1·0 ⊘ s2) (c2 ⊘ s2)) (aboveOf m (1·0 ⊘ s2) (c2 ⊘ s2))
+
+-- the refusals that come with a period term, the term itself, and the sign
+unfoldable pub withPeriodsOf : Float → Float → Float → Bool → Float → Answer
+withPeriodsOf sign m mm met v =
+    when mm ≠· +0 && 1·0 <· m gives Refused 2 else
+    when not met gives Refused 5 else
+    when mm ≠· +0 gives handedOf (sign ⊗ (v ⊕ mm ⊗ valueOf (ellipeOf m))) else
+    handedOf (sign ⊗ v)
+
+unfoldable pub byRecipeOf : Float → Float → Fold → Answer
+byRecipeOf sign m f =
+    let s = valueOf (sineOf (f .angle)) in
+    let c = valueOf (cosineOf (f .angle)) in
+    let e = recipeOf m (s ⊗ s) (c ⊗ c) in
+    when 1·0 ≤· m ⊗ (s ⊗ s) gives Refused 3 else
+    withPeriodsOf sign m (f .mm) (e .met) (f .s ⊗ e .value)
+
+unfoldable pub reducedOf : Float → Float → Float → Answer
+reducedOf sign size m =
+    let f = foldedOf size in
+    when ownOf (f .angle) m gives withPeriodsOf sign m (f .mm) true (f .s ⊗ f .angle) else
+    byRecipeOf sign m f
+
+-- steps 5 to 8, on |φ|; sign is φ's
+unfoldable pub onSizeOf : Float → Float → Float → Answer
+onSizeOf sign size m =
+    when far-out <· size gives farOf sign size m else
+    when m ≤· neg most gives steepOf sign size m else
+    when m =· 1·0 gives lineOf sign size else
+    reducedOf sign size m
+
+-- steps 1 to 4
+unfoldable pub ellipeincOf : Float → Float → Answer
+ellipeincOf φ m =
+    when φ =· +0 gives One +0 else
+    when m =· +0 gives itselfOf φ else
+    when most ≤· magnitudeOf φ gives Infinite (φ <· +0) else
+    when φ ≠· φ && 1·0 <· m gives Refused 2 else
+    when φ ≠· φ || m ≠· m gives Refused 1 else
+    onSizeOf (signOf φ) (magnitudeOf φ) m

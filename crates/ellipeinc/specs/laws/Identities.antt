@@ -1,0 +1,166 @@
+-- Identities of ellipeinc that hold bit for bit: E(0, m) = 0, E(φ, 0) = φ, and E(-φ, m) = -E(φ, m) unless φ is a zero. Assumes nothing.
+use mathlib.Core.Path.{_≡_, refl, sym, ap, ap₂, _∙_}
+use Prim.Native.Nat.{ℕ, zero, suc, _+_, _*_, _<_}
+use native.Mathlib.Omega.{arith}
+use mathlib.Core.Bool.{Bool, true, false, not, cond, _&&_, _||_, true≢false}
+use lib.IntN.{ℤ}
+use lib.Arith.{le→nltb}
+use lib.Dec.{T, eqb, ltb, eqb→eq}
+use lib.Ieee.{Float, nan, inf, fin, binary64, up, down, neg, lt, le, eq, ne, ofBits, isNan}
+use lib.Ieee.Bits.{is-false}
+use lib.Ieee.Scale.{finite}
+use Rattle.laws.specs.Arithmetic.{_⊗_, _⊘_, _<·_, _≤·_, _=·_, _≠·_, +0, most, π, 1·0, 2·0}
+use Rattle.laws.specs.laws.Flags.{is-some}
+use Rattle.laws.specs.Ladder.{held, passed}
+use Rattle.answer.specs.Answer.{valueOf}
+use Rattle.answer.specs.declared.Answer.the-variants.{One, Infinite, Refused}
+use Rattle.root.specs.Root.{rootOf}
+use Rattle.whole.specs.Whole.{magnitudeOf}
+use Rattle.kernel.specs.Sine.{sineOf}
+use Rattle.legendre.specs.Ellipe.{ellipeOf}
+use Rattle.incomplete.specs.declared.Fold.{Fold}
+use Rattle.answer.specs.Settle.{handedOf}
+use Rattle.incomplete.specs.Period.{far-out, foldedOf}
+use Rattle.ellipeinc.specs.Ellipeinc.{signOf, itselfOf, farOf, steepOf, lineOf, ownOf, withPeriodsOf, byRecipeOf, reducedOf, onSizeOf, ellipeincOf}
+use Rattle.whole.specs.laws.Magnitude.{magnitude-nan, magnitude-neg}
+use Rattle.laws.specs.laws.Signs.{mul-neg, div-neg}
+use Rattle.laws.specs.laws.Kinds.{differs-is}
+use Rattle.answer.specs.laws.Odd.{turnOf, same-kind, one-turned, rung, handed-odd}
+
+-- ---- E(0, m) = 0 and E(φ, 0) = φ
+pub at-origin : (φ m : Float) → (φ =· +0) ≡ true → ellipeincOf φ m ≡ One +0
+unfolding ellipeincOf
+at-origin φ m h = sym (held _ _ h refl)
+
+own-answer : (φ : Float) → T (finite φ) → itselfOf φ ≡ One φ
+unfolding itselfOf handedOf isNan
+own-answer (fin s m e) h = sym (passed _ _ (differs-is (fin s m e)) refl)
+
+pub no-parameter : (φ m : Float) → (φ =· +0) ≡ false → T (finite φ) → (m =· +0) ≡ true → ellipeincOf φ m ≡ One φ
+unfolding ellipeincOf
+no-parameter φ m h k z = sym (passed _ _ h (held _ _ z (sym (own-answer φ k))))
+
+-- ---- what -φ shares with φ
+record Mirrored (φ : Float) : Type 0 where
+  still : (neg φ =· +0) ≡ false
+  sides : (neg φ <· +0) ≡ not (φ <· +0)
+
+above-zero : (a z : ℕ) (b : Bool) → z ≡ 0 → (eqb a z && (b || eqb a 0)) ≡ false → 0 < a
+above-zero (suc a) z b e h = omega arith
+above-zero zero zero true e h = absurd (true≢false h)
+above-zero zero zero false e h = absurd (true≢false h)
+above-zero zero (suc z) b e h = absurd (let n : ⊥ = omega (arith, e) in n)
+
+unequal : (a z : ℕ) (b : Bool) → 0 < a → z ≡ 0 → (eqb a z && b) ≡ false
+unequal a z b h e = go (eqb a z) (eqb→eq a z)
+  where
+    go : (t : Bool) → (T t → a ≡ z) → (t && b) ≡ false
+    go true f = let k = f tt in absurd (let n : ⊥ = omega (arith, e) in n)
+    go false f = refl
+
+not-below : (a z : ℕ) → z ≡ 0 → ltb a z ≡ false
+not-below a z e = is-false (ltb a z) (le→nltb a z (omega (arith, e)))
+
+mirrored-fin : (s : Bool) (m : ℕ) (e : ℤ) → (fin s m e =· +0) ≡ false → Mirrored (fin s m e)
+unfolding eq lt neg ofBits
+mirrored-fin true m e h =
+    let z : 0 * 1 * down e ≡ 0 = omega arith in
+    let p : 0 < m * up e * 1 = above-zero (m * up e * 1) (0 * 1 * down e) false z h in
+    record { still = unequal _ _ _ p z; sides = not-below _ _ z ∙ sym (ap not (is-some _ (more (m * up e * 1) (0 * 1 * down e) p))) }
+  where
+    more : (a z : ℕ) → 0 < a → 0 < a + z
+    more a z h = omega arith
+mirrored-fin false m e h =
+    let z : 0 * 1 * down e ≡ 0 = omega arith in
+    let p : 0 < m * up e * 1 = above-zero (m * up e * 1) (0 * 1 * down e) true z h in
+    record { still = unequal _ _ _ p z; sides = is-some _ (more (m * up e * 1) (0 * 1 * down e) p) ∙ sym (ap not (not-below _ _ z)) }
+  where
+    more : (a z : ℕ) → 0 < a → 0 < a + z
+    more a z h = omega arith
+
+mirrored-inf : (s : Bool) → Mirrored (inf s)
+unfolding eq lt neg ofBits
+mirrored-inf s = record { still = refl; sides = refl }
+
+other-sign : (φ : Float) → (neg φ <· +0) ≡ not (φ <· +0) → signOf (neg φ) ≡ neg (signOf φ)
+unfolding signOf
+other-sign φ h = ap (λ (b : Bool). cond b (neg 1·0) 1·0) h ∙ one-turned (φ <· +0)
+
+itself-odd : (φ : Float) → itselfOf (neg φ) ≡ turnOf (itselfOf φ)
+unfolding itselfOf turnOf
+itself-odd φ = rung _ (φ ≠· φ) _ _ _ _ (same-kind φ) refl (handed-odd _ φ refl)
+
+far-odd : (sign size m : Float) → farOf (neg sign) size m ≡ turnOf (farOf sign size m)
+unfolding farOf turnOf
+far-odd sign size m = rung (1·0 <· m) (1·0 <· m) _ _ _ _ refl refl (handed-odd _ _ through)
+  where
+    e : Float
+    e = valueOf (ellipeOf m)
+
+    through : neg sign ⊗ 2·0 ⊗ size ⊗ e ⊘ π ≡ neg (sign ⊗ 2·0 ⊗ size ⊗ e ⊘ π)
+    through = ap (λ (x : Float). x ⊗ size ⊗ e ⊘ π) (mul-neg binary64 sign 2·0) ∙ ap (λ (x : Float). x ⊗ e ⊘ π) (mul-neg binary64 (sign ⊗ 2·0) size) ∙ ap (λ (x : Float). x ⊘ π) (mul-neg binary64 (sign ⊗ 2·0 ⊗ size) e) ∙ div-neg binary64 (sign ⊗ 2·0 ⊗ size ⊗ e) π
+
+steep-odd : (sign size m : Float) → steepOf (neg sign) size m ≡ turnOf (steepOf sign size m)
+unfolding steepOf
+steep-odd sign size m = handed-odd _ _ (ap (λ (x : Float). x ⊗ rootOf (neg m)) (mul-neg binary64 sign _) ∙ mul-neg binary64 _ (rootOf (neg m)))
+
+line-odd : (sign size : Float) → lineOf (neg sign) size ≡ turnOf (lineOf sign size)
+unfolding lineOf
+line-odd sign size = handed-odd _ _ (mul-neg binary64 sign _)
+
+periods-odd : (sign m mm : Float) (met : Bool) (v : Float) → withPeriodsOf (neg sign) m mm met v ≡ turnOf (withPeriodsOf sign m mm met v)
+unfolding withPeriodsOf turnOf
+periods-odd sign m mm met v =
+    rung (mm ≠· +0 && 1·0 <· m) (mm ≠· +0 && 1·0 <· m) _ _ _ _ refl refl
+    (rung (not met) (not met) _ _ _ _ refl refl
+    (rung (mm ≠· +0) (mm ≠· +0) _ _ _ _ refl (handed-odd _ _ (mul-neg binary64 sign _)) (handed-odd _ _ (mul-neg binary64 sign _))))
+
+recipe-odd : (sign m : Float) (f : Fold) → byRecipeOf (neg sign) m f ≡ turnOf (byRecipeOf sign m f)
+unfolding byRecipeOf turnOf
+recipe-odd sign m f =
+    let s = valueOf (sineOf (f .angle)) in
+    rung (1·0 ≤· m ⊗ (s ⊗ s)) (1·0 ≤· m ⊗ (s ⊗ s)) _ _ _ _ refl refl (periods-odd sign m _ _ _)
+
+reduced-odd : (sign size m : Float) → reducedOf (neg sign) size m ≡ turnOf (reducedOf sign size m)
+unfolding reducedOf
+reduced-odd sign size m =
+    let f = foldedOf size in
+    rung (ownOf (f .angle) m) (ownOf (f .angle) m) _ _ _ _ refl (periods-odd sign m _ _ _) (recipe-odd sign m f)
+
+size-odd : (sign size m : Float) → onSizeOf (neg sign) size m ≡ turnOf (onSizeOf sign size m)
+unfolding onSizeOf
+size-odd sign size m =
+    rung (far-out <· size) (far-out <· size) _ _ _ _ refl (far-odd sign size m)
+    (rung (m ≤· neg most) (m ≤· neg most) _ _ _ _ refl (steep-odd sign size m)
+    (rung (m =· 1·0) (m =· 1·0) _ _ _ _ refl (line-odd sign size) (reduced-odd sign size m)))
+
+-- ---- oddness
+odd-of : (φ m : Float) → (φ =· +0) ≡ false → Mirrored φ → ellipeincOf (neg φ) m ≡ turnOf (ellipeincOf φ m)
+unfolding ellipeincOf turnOf
+odd-of φ m h k =
+    sym (passed _ _ (k .still) refl)
+    ∙ rung (m =· +0) (m =· +0) _ _ _ _ refl (itself-odd φ)
+    (rung _ (most ≤· magnitudeOf φ) _ _ _ _ (ap (λ (a : Float). most ≤· a) (magnitude-neg φ)) (ap Infinite (k .sides))
+    (rung _ (φ ≠· φ && 1·0 <· m) _ _ _ _ (ap (λ (b : Bool). b && 1·0 <· m) (same-kind φ)) refl
+    (rung _ (φ ≠· φ || m ≠· m) _ _ _ _ (ap (λ (b : Bool). b || m ≠· m) (same-kind φ)) refl
+    (ap₂ (λ (s a : Float). onSizeOf s a m) (other-sign φ (k .sides)) (magnitude-neg φ) ∙ size-odd (signOf φ) (magnitudeOf φ) m))))
+    ∙ ap turnOf (passed _ _ h refl)
+
+-- NaN is refused, whatever m is
+nan-refused : (m : Float) → ellipeincOf nan m ≡ cond (m =· +0) (Refused 1) (cond (1·0 <· m) (Refused 2) (Refused 1))
+unfolding ellipeincOf itselfOf ne eq le lt ofBits
+nan-refused m = ap (λ (a : Float). cond (m =· +0) (Refused 1) (cond (most ≤· a) (Infinite false) (cond (1·0 <· m) (Refused 2) (Refused 1)))) magnitude-nan
+
+odd-nan : (m : Float) → ellipeincOf (neg nan) m ≡ turnOf (ellipeincOf nan m)
+unfolding neg turnOf
+odd-nan m = nan-refused m ∙ go (m =· +0) (1·0 <· m) ∙ sym (ap turnOf (nan-refused m))
+  where
+    go : (z o : Bool) → cond z (Refused 1) (cond o (Refused 2) (Refused 1)) ≡ turnOf (cond z (Refused 1) (cond o (Refused 2) (Refused 1)))
+    go true o = refl
+    go false true = refl
+    go false false = refl
+
+pub odd : (φ m : Float) → (φ =· +0) ≡ false → ellipeincOf (neg φ) m ≡ turnOf (ellipeincOf φ m)
+odd nan m h = odd-nan m
+odd (inf s) m h = odd-of (inf s) m h (mirrored-inf s)
+odd (fin s k e) m h = odd-of (fin s k e) m h (mirrored-fin s k e h)

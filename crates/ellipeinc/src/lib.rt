@@ -1,0 +1,182 @@
+// The incomplete integral of the second kind, E(φ, m) = ∫ √(1 - m sin²ϑ) dϑ from 0 to φ (DLMF 19.2.5).
+// Domain: m sin²φ < 1; m ≤ 1 where φ reaches beyond a quarter period. Steps 1 to 8 are 01's; order of operations: ellipeinc.rs.
+use answer::Amplitude;
+use answer::Answer;
+use answer::Parameter;
+use answer::Term;
+use answer::handed;
+use carlson::rd;
+use carlson::rf;
+use incomplete::FAR_OUT;
+use incomplete::Fold;
+use incomplete::PI;
+use incomplete::complete_e;
+use incomplete::cosine;
+use incomplete::folded;
+use incomplete::sine;
+ghost use mathlib.Core.Path.{_≡_};
+ghost use Rattle.ellipeinc.specs.Ellipeinc.{signOf, itselfOf, farOf, steepOf, lineOf, ownOf, belowOf, aboveOf, recipeOf, withPeriodsOf, byRecipeOf, reducedOf, onSizeOf, ellipeincOf};
+
+// The largest finite f64.
+const MOST: f64 = 1.7976931348623157e308;
+
+fn sign(phi: f64) -> f64
+    ensures { λ r. ⌜ r ≡ signOf phi ⌝ }
+{
+    if phi < 0.0 { -1.0 } else { 1.0 }
+}
+
+fn itself(phi: f64) -> Answer
+    ensures { λ r. ⌜ r ≡ itselfOf phi ⌝ }
+{
+    if phi != phi {
+        return Answer::Refused(1);
+    }
+    handed(phi)
+}
+
+fn far(sign: f64, size: f64, m: f64) -> Answer
+    ensures { λ r. ⌜ r ≡ farOf sign size m ⌝ }
+{
+    if m > 1.0 {
+        return Answer::Refused(2);
+    }
+    let e = complete_e(m);
+    handed(sign * 2.0 * size * e / PI)
+}
+
+fn steep(sign: f64, size: f64, m: f64) -> Answer
+    ensures { λ r. ⌜ r ≡ steepOf sign size m ⌝ }
+{
+    let periods = whole::floor(size / PI);
+    let h = sine(size % PI / 2.0);
+    let area = 2.0 * (periods + h * h);
+    handed(sign * area * root::root(-m))
+}
+
+fn line(sign: f64, size: f64) -> Answer
+    ensures { λ r. ⌜ r ≡ lineOf sign size ⌝ }
+{
+    let mm = whole::round(size / PI);
+    let s = sine(size - mm * PI);
+    handed(sign * (2.0 * mm + s))
+}
+
+// The file's `m.is_finite()` changes nothing: an infinite m times an angle above 0 is no small product.
+fn own(angle: f64, m: f64) -> bool
+    ensures { λ r. ⌜ r ≡ ownOf angle m ⌝ }
+{
+    (angle == 0.0) | (whole::magnitude(m) * angle * angle < 2.220446049250313e-16)
+}
+
+// Both terms are positive for m < 0.
+fn below(m: f64, c: f64, c1: f64) -> Term
+    ensures { λ r. ⌜ r ≡ belowOf m c c1 ⌝ }
+{
+    let f = rf(c1, c - m, c);
+    let d = rd(c1, c - m, c);
+    Term {
+        value: f.value - m * d.value / 3.0,
+        met: f.met & d.met,
+    }
+}
+
+fn above(m: f64, c: f64, c1: f64) -> Term
+    ensures { λ r. ⌜ r ≡ aboveOf m c c1 ⌝ }
+{
+    let f = rf(c1, c, c - m);
+    let d = rd(c1, c, c - m);
+    let t = root::root(c1 / (c * (c - m)));
+    Term {
+        value: (1.0 - m) * f.value + m * (1.0 - m) * d.value / 3.0 + m * t,
+        met: f.met & d.met,
+    }
+}
+
+fn recipe(m: f64, s2: f64, c2: f64) -> Term
+    ensures { λ r. ⌜ r ≡ recipeOf m s2 c2 ⌝ }
+{
+    if m < 0.0 {
+        return below(m, 1.0 / s2, c2 / s2);
+    }
+    above(m, 1.0 / s2, c2 / s2)
+}
+
+fn with_periods(sign: f64, m: f64, mm: f64, met: bool, v: f64) -> Answer
+    ensures { λ r. ⌜ r ≡ withPeriodsOf sign m mm met v ⌝ }
+{
+    if (mm != 0.0) & (m > 1.0) {
+        return Answer::Refused(2);
+    }
+    if !met {
+        return Answer::Refused(5);
+    }
+    if mm != 0.0 {
+        let e = complete_e(m);
+        return handed(sign * (v + mm * e));
+    }
+    handed(sign * v)
+}
+
+fn by_recipe(sign: f64, m: f64, f: Fold) -> Answer
+    ensures { λ r. ⌜ r ≡ byRecipeOf sign m f ⌝ }
+{
+    let s = sine(f.angle);
+    if m * (s * s) >= 1.0 {
+        return Answer::Refused(3);
+    }
+    let c = cosine(f.angle);
+    let e = recipe(m, s * s, c * c);
+    with_periods(sign, m, f.mm, e.met, f.s * e.value)
+}
+
+fn reduced(sign: f64, size: f64, m: f64) -> Answer
+    ensures { λ r. ⌜ r ≡ reducedOf sign size m ⌝ }
+{
+    let f = folded(size);
+    if own(f.angle, m) {
+        return with_periods(sign, m, f.mm, true, f.s * f.angle);
+    }
+    by_recipe(sign, m, f)
+}
+
+// Steps 5 to 8.
+fn on_size(sign: f64, size: f64, m: f64) -> Answer
+    ensures { λ r. ⌜ r ≡ onSizeOf sign size m ⌝ }
+{
+    if size > FAR_OUT {
+        return far(sign, size, m);
+    }
+    if m <= -MOST {
+        return steep(sign, size, m);
+    }
+    if m == 1.0 {
+        return line(sign, size);
+    }
+    reduced(sign, size, m)
+}
+
+pub fn ellipeinc(phi: Amplitude, m: Parameter) -> Answer
+    ensures { λ r. ⌜ r ≡ ellipeincOf (phi .0) (m .0) ⌝ }
+{
+    let phi = phi.0;
+    let m = m.0;
+    let size = whole::magnitude(phi);
+    if phi == 0.0 {
+        return Answer::One(0.0);
+    }
+    if m == 0.0 {
+        return itself(phi);
+    }
+    if size >= MOST {
+        return Answer::Infinite(phi < 0.0);
+    }
+    if (phi != phi) & (m > 1.0) {
+        return Answer::Refused(2);
+    }
+    if (phi != phi) | (m != m) {
+        return Answer::Refused(1);
+    }
+    let sign = sign(phi);
+    on_size(sign, size, m)
+}

@@ -1,0 +1,6 @@
+-- The sign, which answers there can be, identities that hold bit for bit, how large the angles are, and single points.
+pub mod Signum
+pub mod Values
+pub mod Angles
+pub mod Identities
+pub mod Corners

@@ -1,0 +1,19 @@
+-- The body is the definition, each call replaced by what it ensures.
+use Rattle.laws.specs.Ladder.{held, passed}
+use Rattle.ellippi.specs.Ellippi.{bothBelowOf}
+use borrow.Author.Needs.{needs}
+use Rattle.ellippi.proofs.both_below.Statement.{statement}
+use Rattle.ellippi.proofs.both_below.Tie as tie
+
+returns : tie.Need-returns
+unfolding bothBelowOf
+returns c = held _ _ (c .before .before .if1 .taken) (rw (← c .before .complete-e .ensures) (c .plain-term .ensures))
+
+returns-2 : tie.Need-returns-2
+unfolding bothBelowOf
+returns-2 c =
+    let k = c .before .before in
+    passed _ _ (k .before .if1 .left) (rw (k .complete-k .ensures, c .before .rj .ensures))
+
+pub both-below-spec : {M : Type 1} → statement M
+both-below-spec = tie.close (tie.spec (λ c κs. search needs) (λ c κs. search needs) returns (λ c κs. search needs) (λ c κs. search needs) returns-2)

@@ -1,0 +1,137 @@
+// The complete integral of the third kind, Π(n, m) = ∫ dϑ / ((1 - n sin²ϑ) √(1 - m sin²ϑ)) from 0 to π/2 (DLMF 19.2.8).
+// Domain: m ≤ 1, n ≠ 1; for n > 1 Cauchy's principal value. Arms and order of operations: ellippi.rs.
+use answer::Answer;
+use answer::Characteristic;
+use answer::Parameter;
+use answer::Term;
+use answer::infinity;
+use answer::settled;
+use carlson::rf;
+use carlson::rj;
+use incomplete::HALF_PI;
+use incomplete::complete_e;
+use incomplete::complete_k;
+ghost use mathlib.Core.Path.{_≡_};
+ghost use Rattle.ellippi.specs.Ellippi.{plainTerm, fromRestOf, principalOf, bothBelowOf, firstBelowOf, firstZeroOf, diagonalOf, armsOf, ellippiOf};
+
+// A formula that asks no recipe.
+fn plain_term(value: f64) -> Term
+    ensures { λ r. ⌜ r ≡ plainTerm value ⌝ }
+{
+    Term { value, met: true }
+}
+
+// `ellippi_vc`: `rest` is 1 - n.
+fn from_rest(n: f64, m: f64, rest: f64) -> Term
+    ensures { λ r. ⌜ r ≡ fromRestOf n m rest ⌝ }
+{
+    let f = rf(0.0, 1.0 - m, 1.0);
+    let j = rj(0.0, 1.0 - m, 1.0, rest);
+    Term {
+        value: f.value + n * j.value / 3.0,
+        met: f.met & j.met,
+    }
+}
+
+fn principal(n: f64, m: f64) -> Term
+    ensures { λ r. ⌜ r ≡ principalOf n m ⌝ }
+{
+    let j = rj(0.0, 1.0 - m, 1.0, 1.0 - m / n);
+    Term {
+        value: -(1.0 / 3.0) * m / n * j.value,
+        met: j.met,
+    }
+}
+
+fn both_below(n: f64, m: f64) -> Term
+    ensures { λ r. ⌜ r ≡ bothBelowOf n m ⌝ }
+{
+    if m == n {
+        let e = complete_e(m);
+        return plain_term(e / (1.0 - m));
+    }
+    let rn = 1.0 - n;
+    let rm = 1.0 - m;
+    let k = complete_k(m);
+    let j = rj(0.0, rm, 1.0, rm / rn);
+    Term {
+        value: k / rn + (-n) * rm / (3.0 * rn * rn) * j.value,
+        met: j.met,
+    }
+}
+
+fn first_below(n: f64, m: f64) -> Term
+    ensures { λ r. ⌜ r ≡ firstBelowOf n m ⌝ }
+{
+    let t = from_rest((m - n) / (1.0 - n), m, (1.0 - m) / (1.0 - n));
+    let a = t.value * -n / (1.0 - n);
+    let b = a * (1.0 - m) / (m - n);
+    let k = complete_k(m);
+    Term {
+        value: b + k * m / (m - n),
+        met: t.met,
+    }
+}
+
+fn first_zero(m: f64) -> Term
+    ensures { λ r. ⌜ r ≡ firstZeroOf m ⌝ }
+{
+    if m == 0.0 {
+        return plain_term(HALF_PI);
+    }
+    let k = complete_k(m);
+    plain_term(k)
+}
+
+fn diagonal(m: f64) -> Term
+    ensures { λ r. ⌜ r ≡ diagonalOf m ⌝ }
+{
+    let e = complete_e(m);
+    plain_term(1.0 / (1.0 - m) * e)
+}
+
+fn arms(n: f64, m: f64) -> Term
+    ensures { λ r. ⌜ r ≡ armsOf n m ⌝ }
+{
+    if n > 1.0 {
+        return principal(n, m);
+    }
+    if (n < 0.0) & (m < 0.0) {
+        return both_below(n, m);
+    }
+    if n < 0.0 {
+        return first_below(n, m);
+    }
+    if n == 0.0 {
+        return first_zero(m);
+    }
+    if m == n {
+        return diagonal(m);
+    }
+    from_rest(n, m, 1.0 - n)
+}
+
+pub fn ellippi(n: Characteristic, m: Parameter) -> Answer
+    ensures { λ r. ⌜ r ≡ ellippiOf (n .0) (m .0) ⌝ }
+{
+    let n = n.0;
+    let m = m.0;
+    if (n != n) | (m != m) {
+        return Answer::Refused(1);
+    }
+    if m > 1.0 {
+        return Answer::Refused(2);
+    }
+    if n == 1.0 {
+        return Answer::Refused(4);
+    }
+    if m == 1.0 {
+        return Answer::Infinite(1.0 - n < 0.0);
+    }
+    let below = infinity(true);
+    if (n == below) | (m == below) {
+        return Answer::One(0.0);
+    }
+    let t = arms(n, m);
+    settled(t.met, t.value)
+}

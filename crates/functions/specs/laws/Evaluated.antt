@@ -1,0 +1,93 @@
+-- What the sheet needs of every function, by one law over the function number. Assumes nothing.
+use mathlib.Core.Path.{_≡_, refl, sym, subst}
+use mathlib.Core.Bool.{Bool, true, false, not, cond}
+use Prim.Native.Nat.{ℕ, _≤_, _<_}
+use native.Mathlib.Omega.{arith}
+use borrow.Author.Tests.{ne-eqb, eqb-false}
+use lib.Dec.{T, leb, eqb, leb→le, nleb→lt, lit≤}
+use lib.Ieee.{isNan, fits, binary64, ofBits}
+use lib.Ieee.Bits.{ofBits-fits}
+use Rattle.laws.specs.Arithmetic.{float, +0, 1·0, _=·_}
+use Rattle.answer.specs.Answer.{refusalOf, firstOf, secondOf, valueOf}
+use Rattle.answer.specs.Numbers.{last, stored}
+use Rattle.answer.specs.Sound.{Sound}
+use Rattle.answer.specs.laws.Sound as sound
+use Rattle.answer.specs.laws.Fair.{numeric, fair-sound}
+use Rattle.answer.specs.declared.Answer.{Answer}
+use Rattle.answer.specs.declared.Answer.the-variants.{One, Pair, Infinite, Refused}
+use Rattle.legendre.specs.Values.{ellipk-answers, ellipe-answers, ellipke-answers}
+use Rattle.ellippi.specs.laws.Values.{ellippi-may, ellippi-fair}
+use Rattle.ellipeinc.specs.laws.Values.{ellipeinc-may, ellipeinc-fair}
+use Rattle.ellipf.specs.laws.Values.{ellipf-may, ellipf-fair}
+use Rattle.functions.specs.Functions.{evaluateOf}
+
+zero-sound : Sound (One +0)
+unfolding Sound ofBits
+zero-sound = record { bounded = tt; fit = ofBits-fits binary64 0 }
+
+value-fits : (a : Answer) → Sound a → T (fits binary64 (valueOf a))
+unfolding Sound valueOf fits
+value-fits (One x) s = s .fit
+value-fits (Pair x y) s = s .0 .fit
+value-fits (Infinite t) s = tt
+value-fits (Refused n) s = tt
+
+-- down the numbers: what each function answers, and what is left where it is none of those before
+rung : (t : Bool) (a b : Answer) → Sound a → (t ≡ false → Sound b) → Sound (cond t a b)
+rung true a b p q = p
+rung false a b p q = q refl
+
+-- every function's answer is sound
+pub evaluated-sound : (f a b c : ℕ) → f ≤ last → Sound (evaluateOf f a b c)
+unfolding evaluateOf numeric stored
+evaluated-sound f a b c h =
+    let x = float a in
+    let y = float b in
+    let fit = ofBits-fits binary64 in
+    rung (eqb f 0) _ _ zero-sound (λ n0.
+    rung (eqb f 1) _ _ (ellipk-answers .sound x (fit a)) (λ n1.
+    rung (eqb f 2) _ _ (ellipe-answers .sound x (fit a)) (λ n2.
+    rung (eqb f 3) _ _ (ellipke-answers .sound x (fit a)) (λ n3.
+    rung (eqb f 4) _ _ (fair-sound (ellippi-may (y =· 1·0)) _ tt (ellippi-fair x y (value-fits _ (ellipk-answers .sound y (fit b))))) (λ n4.
+    rung (eqb f 5) _ _ (fair-sound ellipeinc-may _ tt (ellipeinc-fair x y (fit a))) (λ n5.
+    rung (eqb f 6) _ _ (fair-sound ellipf-may _ tt (ellipf-fair x y (fit a))) (λ n6.
+    absurd (none f h (eqb-false f 0 n0) (eqb-false f 1 n1) (eqb-false f 2 n2) (eqb-false f 3 n3) (eqb-false f 4 n4) (eqb-false f 5 n5) (eqb-false f 6 n6)))))))))
+  where
+    none : (f : ℕ) → f ≤ last → (f ≡ 0 → ⊥) → (f ≡ 1 → ⊥) → (f ≡ 2 → ⊥) → (f ≡ 3 → ⊥) → (f ≡ 4 → ⊥) → (f ≡ 5 → ⊥) → (f ≡ 6 → ⊥) → ⊥
+    none f h n0 n1 n2 n3 n4 n5 n6 = omega (arith, h, n0, n1, n2, n3, n4, n5, n6)
+
+-- and a number above the last has none
+pub beyond : (f a b c : ℕ) → last < f → evaluateOf f a b c ≡ Refused 9
+unfolding evaluateOf
+beyond f a b c h = rw (ne-eqb f 0 (λ e. omega arith), ne-eqb f 1 (λ e. omega arith), ne-eqb f 2 (λ e. omega arith), ne-eqb f 3 (λ e. omega arith), ne-eqb f 4 (λ e. omega arith), ne-eqb f 5 (λ e. omega arith), ne-eqb f 6 (λ e. omega arith))
+
+-- what holds of every sound answer and of refusal 9 holds of every evaluation
+each : (P : Answer → Type 0) → ((z : Answer) → Sound z → P z) → P (Refused 9) → (f a b c : ℕ) → P (evaluateOf f a b c)
+each P p q f a b c = go (leb f last) (leb→le f last) (nleb→lt f last)
+  where
+    go : (t : Bool) → (T t → f ≤ last) → (T (not t) → last < f) → P (evaluateOf f a b c)
+    go true h k = p (evaluateOf f a b c) (evaluated-sound f a b c (h tt))
+    go false h k = subst P (sym (beyond f a b c (k tt))) q
+
+-- a function's refusal is one that a row may store
+pub stored-refusal : (f a b c : ℕ) → f ≤ last → T (stored (refusalOf (evaluateOf f a b c)))
+stored-refusal f a b c h = sound.stored-refusal (evaluateOf f a b c) (evaluated-sound f a b c h)
+
+-- a refusal number fits a byte
+pub refusal-byte : (f a b c : ℕ) → refusalOf (evaluateOf f a b c) ≤ 255
+unfolding refusalOf
+refusal-byte = each (λ z. refusalOf z ≤ 255) (λ z s. sound.stored-byte (refusalOf z) (sound.stored-refusal z s)) (lit≤ tt)
+
+-- no first answer is NaN
+pub never-nan : (f a b c : ℕ) → isNan (firstOf (evaluateOf f a b c)) ≡ false
+unfolding firstOf isNan ofBits
+never-nan = each (λ z. isNan (firstOf z) ≡ false) sound.never-nan refl
+
+-- both answers are f64
+pub fits-first : (f a b c : ℕ) → T (fits binary64 (firstOf (evaluateOf f a b c)))
+unfolding firstOf
+fits-first = each (λ z. T (fits binary64 (firstOf z))) sound.fits-first (ofBits-fits binary64 0)
+
+pub fits-second : (f a b c : ℕ) → T (fits binary64 (secondOf (evaluateOf f a b c)))
+unfolding secondOf
+fits-second = each (λ z. T (fits binary64 (secondOf z))) sound.fits-second (ofBits-fits binary64 0)

@@ -1,0 +1,2 @@
+-- How large the reduced angles are.
+pub mod Angles

@@ -1,5 +1,5 @@
 //! Sine, cosine and logarithm: the proved library against the same steps in Rust and Rust's own functions, in one run.
-//! twin: kernel
+//! twin: angle logarithm
 mod library;
 mod patterns;
 mod timing;
@@ -27,7 +27,7 @@ fn main() {
     let mut random = Random(11);
     let angles: Vec<f64> = (0..10_000).map(|_| (random.below(1 << 53) as f64 / (1u64 << 52) as f64 - 1.0) * 4.0).collect();
     let positive: Vec<f64> = (0..10_000).map(|_| f64::from_bits(((random.below(2046) + 1) << 52) | random.below(1 << 52))).collect();
-    contest("sine, |x| up to 4", &angles, library::sine, |x| value(twin::kernel::sine(x)), f64::sin);
-    contest("cosine, |x| up to 4", &angles, library::cosine, |x| value(twin::kernel::cosine(x)), f64::cos);
-    contest("logarithm, all normal numbers above zero", &positive, library::logarithm, |x| value(twin::kernel::logarithm(x)), f64::ln);
+    contest("sine, |x| up to 4", &angles, library::sine, |x| value(twin::angle::sine(x)), f64::sin);
+    contest("cosine, |x| up to 4", &angles, library::cosine, |x| value(twin::angle::cosine(x)), f64::cos);
+    contest("logarithm, all normal numbers above zero", &positive, library::logarithm, |x| value(twin::logarithm::logarithm(x)), f64::ln);
 }

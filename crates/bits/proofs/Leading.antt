@@ -13,7 +13,7 @@ use lib.Ieee.Nearest.{nearest-ge}
 use Rattle.laws.specs.laws.Digits.{size-exact}
 use Rattle.bits.specs.Rounded.{Kept}
 use Rattle.bits.specs.Steps.{ordOf, Drop, spare}
-use Rattle.bits.specs.Once.{kept-round}
+use Rattle.bits.specs.laws.Once.{kept-round}
 
 only-11 : (d t : ℕ) → 11 ≤ d → (11 < d → t ≡ spare) → (d ≡ 11) ⊎ (t ≡ spare)
 only-11 d t a h = pick (eq-or-lt-of-le a)

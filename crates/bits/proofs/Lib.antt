@@ -1,5 +1,6 @@
 -- Arguments that the functions' proofs cite.
 pub mod Columns
+pub mod Carries
 pub mod Reading
 pub mod Packing
 pub mod Leading

@@ -11,8 +11,8 @@ use lib.Ieee.{Float, binary64, round, units}
 use Rattle.laws.specs.laws.Digits.{length, moved, zeros-lt}
 use Rattle.bits.specs.Rounded.{Kept, roundedOf}
 use Rattle.bits.specs.Steps.{spare}
-use Rattle.bits.specs.Keeping.{kept-cut, kept-self, kept-scaled}
-use Rattle.bits.specs.Once.{round-shift, with-half}
+use Rattle.bits.specs.laws.Keeping.{kept-cut, kept-self, kept-scaled}
+use Rattle.bits.specs.laws.Once.{round-shift, with-half}
 
 -- ---- no zeros above the upper limb: it is the leading 64
 pub no-zeros : (h : ℕ) → 0 < h → h < 2 ^ 64 → leadingZeros 64 h ≡ 0 → 2 ^ 63 ≤ h

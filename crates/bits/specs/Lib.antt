@@ -1,9 +1,6 @@
--- Definitions that the contracts cite (Wide, Parts, Rounded; Steps for the steps of the rounding), then the laws that make them believable.
+-- What the contracts cite (Wide, Parts, Rounded), what the steps of the rounding promise each other (Steps), and what is proved of them (laws).
 pub mod Wide
 pub mod Parts
 pub mod Rounded
 pub mod Steps
-pub mod Patterns
-pub mod Unique
-pub mod Keeping
-pub mod Once
+pub mod laws

@@ -2,8 +2,11 @@
 use mathlib.Core.Path.{_≡_}
 use Prim.Native.Nat.{ℕ, _+_, _*_, _^_, _<_}
 
--- n is high * 2 ^ 64 + low
+abbrev pub val : ℕ → ℕ → ℕ
+val high low = high * 2 ^ 64 + low
+
+-- n in two limbs
 pub record Halves (n high low : ℕ) : Type 0 where
-  pub whole : high * 2 ^ 64 + low ≡ n
+  pub whole : val high low ≡ n
   pub high-fits : high < 2 ^ 64
   pub low-fits : low < 2 ^ 64

@@ -1,4 +1,4 @@
-// An f64 as its pattern and as its parts, products of 128 places, and the one rounding.
+// An f64 as its pattern and as its parts, numbers of two limbs, and the one rounding.
 mod decoding;
 mod fields;
 mod pattern;
@@ -11,4 +11,7 @@ pub use pattern::from_pattern;
 pub use pattern::to_pattern;
 pub use rounding::rounded;
 pub use wide::Wide;
+pub use wide::less;
+pub use wide::minus;
+pub use wide::plus;
 pub use wide::product;

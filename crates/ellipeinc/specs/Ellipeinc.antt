@@ -8,8 +8,8 @@ use Rattle.answer.specs.declared.Answer.{Answer}
 use Rattle.answer.specs.declared.Answer.the-variants.{One, Infinite, Refused}
 use Rattle.root.specs.Root.{rootOf}
 use Rattle.whole.specs.Whole.{magnitudeOf, floorOf, roundOf}
-use Rattle.kernel.specs.Sine.{sineOf}
-use Rattle.kernel.specs.Cosine.{cosineOf}
+use Rattle.angle.specs.Sine.{sineOf}
+use Rattle.angle.specs.Cosine.{cosineOf}
 use Rattle.legendre.specs.Ellipe.{ellipeOf}
 use Rattle.carlson.specs.Rf.{rfOf}
 use Rattle.carlson.specs.Rd.{rdOf}

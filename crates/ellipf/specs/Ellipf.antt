@@ -7,8 +7,8 @@ use Rattle.answer.specs.Answer.{valueOf}
 use Rattle.answer.specs.declared.Answer.{Answer}
 use Rattle.answer.specs.declared.Answer.the-variants.{One, Refused}
 use Rattle.whole.specs.Whole.{magnitudeOf}
-use Rattle.kernel.specs.Sine.{sineOf}
-use Rattle.kernel.specs.Cosine.{cosineOf}
+use Rattle.angle.specs.Sine.{sineOf}
+use Rattle.angle.specs.Cosine.{cosineOf}
 use Rattle.legendre.specs.Ellipk.{kUncheckedOf}
 use Rattle.carlson.specs.Rf.{rfOf}
 use Rattle.answer.specs.Settle.{infiniteOf, settledOf, handedOf}

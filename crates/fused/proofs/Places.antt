@@ -8,8 +8,8 @@ use lib.Count.{leadingZeros, leading-of-zero}
 use lib.Dec.{lit≤, lit<}
 use lib.Pow.{pow-add, pow-pos}
 use Rattle.laws.specs.laws.Digits.{length, moved, zeros-ge, zeros-lt, mul-lt-pow}
-use Rattle.bits.specs.Wide.{Halves}
-use Rattle.fused.specs.Steps.{Lifted, Placed, val}
+use Rattle.bits.specs.Wide.{val, Halves}
+use Rattle.fused.specs.Steps.{Lifted, Placed}
 
 -- ---- a float's digits
 -- 10 zeros at least stay below them

@@ -1,71 +1,16 @@
--- Two limbs: their order and difference, and a shift to the right. Assumes nothing.
+-- Two limbs shifted to the right. Assumes nothing.
 use mathlib.Core.Path.{_≡_, sym, ap, _∙_, subst}
-use mathlib.Core.Logic.{_⊎_, inl, inr}
 use mathlib.Core.Bool.{false, _||_}
-use Prim.Native.Nat.{ℕ, suc, _+_, _-_, _*_, _/_, _%_, _^_, _≤_, _<_}
-use native.Mathlib.Nat.{mul-le-mul-right, le-of-eq, lt-of-lt-of-le, mul-assoc, mul-comm, add-mul, mul-div-cancel, mul-mod-left, add-zero, div-add-mod', mul-add-div-right, mul-add-mod-self-right, mod-lt, mod-eq-of-lt, div-eq-of-lt, div-one, mod-one, lt-of-le-of-lt}
+use Prim.Native.Nat.{ℕ, _+_, _-_, _*_, _/_, _%_, _^_, _≤_, _<_}
+use native.Mathlib.Nat.{le-of-eq, lt-of-lt-of-le, mul-assoc, mul-comm, add-mul, mul-div-cancel, mul-mod-left, add-zero, div-add-mod', mul-add-div-right, mul-add-mod-self-right, mod-lt, mod-eq-of-lt, div-eq-of-lt, div-one, mod-one}
 use native.Mathlib.Omega.{arith}
-use lib.Arith.{mod-mul, digits-lt, le→nltb}
-use lib.Dec.{ltb, lt→ltb}
-use lib.Ieee.Bits.{is-true, is-false}
+use lib.Arith.{mod-mul, digits-lt}
+use lib.Dec.{ltb}
 use lib.Pow.{pow-add, pow-pos, pow-mono, shr-lt, shr-shr, mod-pow-add, high, low}
-use Rattle.laws.specs.laws.Flags.{lt-or-le, some-sum}
+use Rattle.laws.specs.laws.Flags.{some-sum}
 use Rattle.laws.specs.laws.Digits.{one-shl}
-use Rattle.bits.specs.Wide.{Halves}
-use Rattle.fused.specs.Steps.{Shifted, val}
-
--- ---- order
-less-is : (u v x y : ℕ) → (u < v → x < y) → (v ≤ u → y ≤ x) → ltb u v ≡ ltb x y
-less-is u v x y f g = go (lt-or-le u v)
-  where
-    go : (u < v) ⊎ (v ≤ u) → ltb u v ≡ ltb x y
-    go (inl h) = is-true (ltb u v) (lt→ltb u v h) ∙ sym (is-true (ltb x y) (lt→ltb x y (f h)))
-    go (inr h) = is-false (ltb u v) (le→nltb u v h) ∙ sym (is-false (ltb x y) (le→nltb x y (g h)))
-
-pub less-low : (h l h' l' : ℕ) → h ≡ h' → ltb l l' ≡ ltb (val h l) (val h' l')
-less-low h l h' l' e = less-is l l' (val h l) (val h' l') (λ g. let z : val h l < val h' l' = omega arith in z) (λ g. let z : val h' l' ≤ val h l = omega arith in z)
-
-pub less-high : (h l h' l' : ℕ) → (h ≡ h' → ⊥) → l < 2 ^ 64 → l' < 2 ^ 64 → ltb h h' ≡ ltb (val h l) (val h' l')
-less-high h l h' l' n a b = less-is h h' (val h l) (val h' l') (λ g. let z : val h l < val h' l' = omega arith in z) (λ g. let z : val h' l' ≤ val h l = omega arith in z)
-
--- ---- difference, in any base: without a borrow, and with one
-high-le : (P h l h' l' : ℕ) → l < P → h' * P + l' ≤ h * P + l → h' ≤ h
-high-le P h l h' l' a g = let n : h < h' → ⊥ = λ k. (let m : suc h * P ≤ h' * P = mul-le-mul-right P k in let z : ⊥ = omega arith in z) in omega arith
-
-high-lt : (P h l h' l' : ℕ) → l < l' → h' * P + l' ≤ h * P + l → h' < h
-high-lt P h l h' l' a g = let n : h ≤ h' → ⊥ = λ k. (let m : h * P ≤ h' * P = mul-le-mul-right P k in let z : ⊥ = omega arith in z) in omega arith
-
-difference : (P u h l h' l' r b : ℕ) → h ≡ u + b + h' → r + l' ≡ l + b * P → u * P + r ≡ (h * P + l) - (h' * P + l')
-difference P u h l h' l' r b e q = let m : h * P ≡ (u + b + h') * P = ap (λ (x : ℕ). x * P) e in omega arith
-
-module _ (h l h' l' r : ℕ) (a : h < 2 ^ 64) (b : l < 2 ^ 64) (c : l' < 2 ^ 64) (d : r < 2 ^ 64) (e : (r + l') % 2 ^ 64 ≡ l) (g : val h' l' ≤ val h l) where
-  pub minus-plain : l' ≤ l → (h' ≤ h) × Halves (val h l - val h' l') (h - h') r
-  minus-plain p =
-      let k = high-le (2 ^ 64) h l h' l' b g in
-      (k, record { whole = difference (2 ^ 64) (h - h') h l h' l' r 0 (back h h' k) (sums l l' r b c d e p); high-fits = lt-of-le-of-lt (less h h') a; low-fits = d })
-    where
-      back : (h h' : ℕ) → h' ≤ h → h ≡ h - h' + 0 + h'
-      back h h' k = omega arith
-
-      less : (h h' : ℕ) → h - h' ≤ h
-      less h h' = omega arith
-
-      sums : (l l' r : ℕ) → l < 2 ^ 64 → l' < 2 ^ 64 → r < 2 ^ 64 → (r + l') % 2 ^ 64 ≡ l → l' ≤ l → r + l' ≡ l + 0 * 2 ^ 64
-      sums l l' r b c d e p = omega arith
-
-  pub minus-borrow : l < l' → (h' < h) × Halves (val h l - val h' l') (h - h' - 1) r
-  minus-borrow p =
-      let k = high-lt (2 ^ 64) h l h' l' p g in
-      (k, record { whole = difference (2 ^ 64) (h - h' - 1) h l h' l' r 1 (back h h' k) (sums l l' r b c d e p); high-fits = lt-of-le-of-lt (less h h') a; low-fits = d })
-    where
-      back : (h h' : ℕ) → h' < h → h ≡ h - h' - 1 + 1 + h'
-      back h h' k = omega arith
-
-      less : (h h' : ℕ) → h - h' - 1 ≤ h
-      less h h' = omega arith
-
-      sums : (l l' r : ℕ) → l < 2 ^ 64 → l' < 2 ^ 64 → r < 2 ^ 64 → (r + l') % 2 ^ 64 ≡ l → l < l' → r + l' ≡ l + 1 * 2 ^ 64
-      sums l l' r b c d e p = omega arith
+use Rattle.bits.specs.Wide.{val}
+use Rattle.fused.specs.Steps.{Shifted}
 
 -- ---- a shift by less than a limb
 parts : (n : ℕ) → n < 64 → 2 ^ (64 - n) * 2 ^ n ≡ 2 ^ 64

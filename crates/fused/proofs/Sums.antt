@@ -11,9 +11,10 @@ use lib.Ieee.{binary64, round, sum}
 use Rattle.laws.specs.laws.Flags.{is-some, some-of, some-sum}
 use Rattle.laws.specs.laws.Sum.{sum-like, sum-unlike, sum-comm, differ-comm}
 use Rattle.bits.specs.Rounded.{Kept, roundedOf}
-use Rattle.bits.specs.Keeping.{kept-split, kept-all, kept-self, kept-sum, kept-diff, kept-pos}
-use Rattle.bits.specs.Once.{rounded-kept, rounded-exact}
-use Rattle.fused.specs.Steps.{Placed, Shifted, val, without}
+use Rattle.bits.specs.laws.Keeping.{kept-split, kept-all, kept-self, kept-sum, kept-diff, kept-pos}
+use Rattle.bits.specs.laws.Once.{rounded-kept, rounded-exact}
+use Rattle.bits.specs.Wide.{val}
+use Rattle.fused.specs.Steps.{Placed, Shifted, without}
 
 -- ---- the one rounding of what is kept
 rounded-of : (s : Bool) (n w e : ℕ) (m : Bool) → Kept n w e m → (m ≡ true → 2 ^ 53 ≤ w) → roundedOf s w m e ≡ round binary64 s n (2 ^ 2340)

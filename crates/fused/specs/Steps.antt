@@ -3,10 +3,7 @@ use mathlib.Core.Path.{_≡_}
 use mathlib.Core.Bool.{Bool, cond}
 use Prim.Native.Nat.{ℕ, _+_, _-_, _*_, _/_, _%_, _^_, _≤_, _<_}
 use lib.Dec.{ltb}
-
--- a number of two limbs
-abbrev pub val : ℕ → ℕ → ℕ
-val high low = high * 2 ^ 64 + low
+use Rattle.bits.specs.Wide.{val}
 
 -- sig * 2 ^ exp as digits * 2 ^ e' / 2 ^ 63: 63 digits, of which the lowest 10 are 0
 pub record Lifted (sig exp digits e' : ℕ) : Type 0 where

@@ -6,14 +6,15 @@ ghost use Prim.Native.Nat.{_+_, _*_, _^_, _<_, _≤_};
 ghost use lib.Dec.{ltb};
 ghost use lib.Ieee.{binary64, sum, unlike};
 ghost use Rattle.bits.specs.Rounded.{roundedOf};
+ghost use Rattle.bits.specs.Wide.{val};
 ghost use Rattle.fused.specs.Fused.{fusedOf};
-ghost use Rattle.fused.specs.Steps.{Lifted, Placed, val, without};
+ghost use Rattle.fused.specs.Steps.{Lifted, Placed, without};
 use bits::Parts;
 use bits::Wide;
+use bits::less;
+use bits::minus;
+use bits::plus;
 use limbs::Left;
-use limbs::less;
-use limbs::minus;
-use limbs::plus;
 use limbs::shifted;
 
 mod limbs;
@@ -97,7 +98,7 @@ fn add(negative: bool, a: Wide, b: Left, exponent: u64) -> f64
 
 // The last place, or nothing.
 fn last_place(more: bool) -> Wide
-    ensures { λ r. ⌜ (val r.high r.low ≡ cond more 1 0) × (r .high < 2 ^ 63) ⌝ }
+    ensures { λ r. ⌜ val r.high r.low ≡ cond more 1 0 ⌝ }
 {
     if more {
         Wide { high: 0, low: 1 }

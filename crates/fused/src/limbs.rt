@@ -1,53 +1,8 @@
-// Numbers of two limbs: sum, difference, order, and a shift that says whether it lost anything.
+// A number of two limbs shifted to the right, and whether that lost anything.
 ghost use mathlib.Core.Path.{_≡_};
-ghost use Prim.Native.Nat.{_+_, _-_, _^_, _<_, _≤_};
-ghost use lib.Dec.{ltb};
-ghost use Rattle.bits.specs.Wide.{Halves};
-ghost use Rattle.fused.specs.Steps.{Shifted, val};
-use bits::Wide;
-
-pub(crate) fn plus(a: Wide, b: Wide) -> Wide
-    requires { ⌜ (a.high < 2 ^ 63) × (b.high < 2 ^ 63) ⌝ }
-    ensures { λ r. ⌜ Halves (val a.high a.low + val b.high b.low) r.high r.low ⌝ }
-{
-    let low = std::num::wrapping_add_u64(a.low, b.low);
-    if low < a.low {
-        return Wide {
-            high: a.high + b.high + 1,
-            low: low,
-        };
-    }
-    Wide {
-        high: a.high + b.high,
-        low: low,
-    }
-}
-
-pub(crate) fn minus(a: Wide, b: Wide) -> Wide
-    requires { ⌜ val b.high b.low ≤ val a.high a.low ⌝ }
-    ensures { λ r. ⌜ Halves (val a.high a.low - val b.high b.low) r.high r.low ⌝ }
-{
-    let low = std::num::wrapping_sub_u64(a.low, b.low);
-    if a.low < b.low {
-        return Wide {
-            high: a.high - b.high - 1,
-            low: low,
-        };
-    }
-    Wide {
-        high: a.high - b.high,
-        low: low,
-    }
-}
-
-pub(crate) fn less(a: Wide, b: Wide) -> bool
-    ensures { λ r. ⌜ r ≡ ltb (val a.high a.low) (val b.high b.low) ⌝ }
-{
-    if a.high == b.high {
-        return a.low < b.low;
-    }
-    a.high < b.high
-}
+ghost use Prim.Native.Nat.{_-_, _^_, _<_, _≤_};
+ghost use Rattle.bits.specs.Wide.{val};
+ghost use Rattle.fused.specs.Steps.{Shifted};
 
 // What a shift leaves, and whether any digit that it dropped was set.
 pub(crate) struct Left {

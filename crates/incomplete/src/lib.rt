@@ -2,8 +2,8 @@
 use answer::Parameter;
 ghost use mathlib.Core.Path.{_≡_};
 ghost use Rattle.answer.specs.Answer.{valueOf};
-ghost use Rattle.kernel.specs.Sine.{sineOf};
-ghost use Rattle.kernel.specs.Cosine.{cosineOf};
+ghost use Rattle.angle.specs.Sine.{sineOf};
+ghost use Rattle.angle.specs.Cosine.{cosineOf};
 ghost use Rattle.legendre.specs.Ellipk.{ellipkOf};
 ghost use Rattle.legendre.specs.Ellipe.{ellipeOf};
 ghost use Rattle.incomplete.specs.Period.{foldedOf};
@@ -31,13 +31,13 @@ pub fn complete_e(m: f64) -> f64
 pub fn sine(x: f64) -> f64
     ensures { λ r. ⌜ r ≡ valueOf (sineOf x) ⌝ }
 {
-    answer::value(kernel::sine(x))
+    answer::value(angle::sine(x))
 }
 
 pub fn cosine(x: f64) -> f64
     ensures { λ r. ⌜ r ≡ valueOf (cosineOf x) ⌝ }
 {
-    answer::value(kernel::cosine(x))
+    answer::value(angle::cosine(x))
 }
 
 // |φ| = mm·π/2 + s·angle, angle within a quarter period.

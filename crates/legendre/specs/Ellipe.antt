@@ -9,7 +9,7 @@ use Rattle.fused.specs.Fused.{fusedOf}
 use Rattle.answer.specs.Answer.{valueOf}
 use Rattle.answer.specs.declared.Answer.{Answer}
 use Rattle.answer.specs.declared.Answer.the-variants.{One, Infinite}
-use Rattle.kernel.specs.Logarithm.{logarithmOf}
+use Rattle.logarithm.specs.Logarithm.{logarithmOf}
 use Rattle.legendre.specs.Domain.{byDomain, belowOneOf}
 use Rattle.legendre.specs.Mean.{arithmeticOf, geometricOf, goesOnOf, iterated}
 use Rattle.legendre.specs.Piece.{ePieceOf}

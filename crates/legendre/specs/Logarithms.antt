@@ -10,10 +10,10 @@ use lib.Pow.{pow-pos, pow-mono}
 use lib.IntN.{ℤ}
 use lib.Ieee.{Float, nan, inf, fin, up, down}
 use lib.Ieee.Fits.{down-pos}
-use Rattle.kernel.specs.Alternating.{apart}
-use Rattle.kernel.specs.Series.{unitsOf, places}
-use Rattle.kernel.specs.Split.{places-le}
-use Rattle.kernel.specs.Logarithm.{oddsOf, partOf, third, logarithmAt, logarithmOf}
+use Rattle.bounds.specs.Close.{distanceOf}
+use Rattle.logarithm.specs.Series.{unitsOf, places}
+use Rattle.logarithm.specs.laws.Places.{places-le}
+use Rattle.logarithm.specs.Logarithm.{oddsOf, partOf, third, logarithmAt, logarithmOf}
 use Rattle.answer.specs.Answer.{valueOf}
 use Rattle.legendre.specs.Ellipe.{lnOf}
 use Rattle.legendre.specs.Bounds.{Small, Within, positive, small-round}

@@ -70,7 +70,7 @@ pub(crate) fn last_sums(tolerance: f64, y0: f64) -> Sums
 fn ln(x: f64) -> f64
     ensures { λ r. ⌜ r ≡ lnOf x ⌝ }
 {
-    answer::value(kernel::logarithm(x))
+    answer::value(logarithm::logarithm(x))
 }
 
 pub(crate) fn near_one(y0: f64) -> f64

@@ -15,7 +15,7 @@ use Rattle.laws.specs.laws.Compare.{compare-is, compare-scaled}
 use Rattle.laws.specs.laws.Digits.{length, moved, size-exact, zeros-ge}
 use Rattle.bits.specs.Rounded.{roundedOf}
 use Rattle.bits.specs.Steps.{ordOf}
-use Rattle.bits.specs.Once.{kept-round, with-half}
+use Rattle.bits.specs.laws.Once.{kept-round, with-half}
 use Rattle.root.specs.Root.{wholeRoot, roundRoot}
 use Rattle.root.specs.laws.Meaning.{IsRoot, square-lt, two-four, whole-root-is}
 use Rattle.root.specs.Steps.{Root, Tried, Aligned}

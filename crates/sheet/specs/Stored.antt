@@ -9,7 +9,7 @@ use lib.ListN.{length, take, drop, replicate, length-append}
 use lib.Seq.{take-at, drop-at}
 use lib.Ieee.{isNan, ofBits, toBits, binary64}
 use lib.Ieee.Bits.{toBits-lt}
-use Rattle.bits.specs.Patterns.{value-back}
+use Rattle.bits.specs.laws.Patterns.{value-back}
 use Rattle.laws.specs.Arithmetic.{float}
 use Rattle.answer.specs.Answer.{refusalOf, firstOf, secondOf}
 use Rattle.functions.specs.Functions.{evaluateOf, last}

@@ -7,9 +7,9 @@ ghost use Rattle.root.specs.Root.{rootOf};
 ghost use Rattle.fused.specs.Fused.{fusedOf};
 ghost use Rattle.whole.specs.Whole.{magnitudeOf, truncOf, floorOf, roundOf};
 ghost use Rattle.answer.specs.Answer.{valueOf};
-ghost use Rattle.kernel.specs.Sine.{sineOf};
-ghost use Rattle.kernel.specs.Cosine.{cosineOf};
-ghost use Rattle.kernel.specs.Logarithm.{logarithmOf};
+ghost use Rattle.angle.specs.Sine.{sineOf};
+ghost use Rattle.angle.specs.Cosine.{cosineOf};
+ghost use Rattle.logarithm.specs.Logarithm.{logarithmOf};
 ghost use Rattle.sheet.specs.Calls.{blankRefusal, blankOf, editRefusal, editOf, rowRefusal, readOf, totalRefusal, totalOf};
 ghost use Rattle.shuttlemint.specs.Face.{evaluateRefusal, evaluateOut, rowPlaceOf};
 
@@ -64,21 +64,21 @@ pub extern "C" fn sm_fused(x: u64, y: u64, z: u64) -> u64
 pub extern "C" fn sm_sine(x: u64) -> u64
     ensures { λ r. ⌜ r ≡ toBits binary64 (valueOf (sineOf (ofBits binary64 x))) ⌝ }
 {
-    bits::to_pattern(answer::value(kernel::sine(bits::from_pattern(x))))
+    bits::to_pattern(answer::value(angle::sine(bits::from_pattern(x))))
 }
 
 #[no_mangle]
 pub extern "C" fn sm_cosine(x: u64) -> u64
     ensures { λ r. ⌜ r ≡ toBits binary64 (valueOf (cosineOf (ofBits binary64 x))) ⌝ }
 {
-    bits::to_pattern(answer::value(kernel::cosine(bits::from_pattern(x))))
+    bits::to_pattern(answer::value(angle::cosine(bits::from_pattern(x))))
 }
 
 #[no_mangle]
 pub extern "C" fn sm_logarithm(x: u64) -> u64
     ensures { λ r. ⌜ r ≡ toBits binary64 (valueOf (logarithmOf (ofBits binary64 x))) ⌝ }
 {
-    bits::to_pattern(answer::value(kernel::logarithm(bits::from_pattern(x))))
+    bits::to_pattern(answer::value(logarithm::logarithm(bits::from_pattern(x))))
 }
 
 // The function of this number; its two answers' patterns go to out[0] and out[1]. Another length of `out` is refused with 7.

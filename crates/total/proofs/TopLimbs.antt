@@ -12,8 +12,8 @@ use lib.Pow.{pow-pos}
 use lib.Seq.{take-all, length-take-le}
 use lib.Ieee.{round, binary64}
 use Rattle.bits.specs.Rounded.{Kept, roundedOf}
-use Rattle.bits.specs.Keeping.{kept-digits, kept-self, kept-scaled}
-use Rattle.bits.specs.Once.{rounded-kept, rounded-exact, round-shift}
+use Rattle.bits.specs.laws.Keeping.{kept-digits, kept-self, kept-scaled}
+use Rattle.bits.specs.laws.Once.{rounded-kept, rounded-exact, round-shift}
 use Rattle.total.specs.Total.{val, N, Half, limbsOf, signed, roundTotal}
 use Rattle.total.specs.Carry.{W}
 use Rattle.total.specs.Limbs.{Fit, W-pow, W-next, val-below, val-lt, val-limbs, val-next}

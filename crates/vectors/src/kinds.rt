@@ -183,12 +183,12 @@ fn agrees_near(kind: u8, s: &[u8]) -> Shown {
 // The kernel's functions.
 fn computed(kind: u8, x: f64) -> Answer {
     if kind == 11 {
-        return kernel::sine(x);
+        return angle::sine(x);
     }
     if kind == 12 {
-        return kernel::cosine(x);
+        return angle::cosine(x);
     }
-    kernel::logarithm(x)
+    logarithm::logarithm(x)
 }
 
 // The reference is the sum of two floats, and its bound stands beside it.

@@ -6,8 +6,8 @@ use Rattle.answer.specs.Answer.{valueOf}
 use Rattle.answer.specs.declared.Answer.the-variants.{One, Refused}
 use Rattle.root.specs.Root.{rootOf}
 use Rattle.whole.specs.Whole.{magnitudeOf, floorOf}
-use Rattle.kernel.specs.Alternating.{squareOf, alternatingOf, upToFour}
-use Rattle.kernel.specs.Sine.{sineAt, sineOf}
+use Rattle.angle.specs.Alternating.{squareOf, alternatingOf, upToFour}
+use Rattle.angle.specs.Sine.{sineAt, sineOf}
 use Rattle.answer.specs.Settle.{handedOf}
 use Rattle.ellipeinc.specs.Ellipeinc.{ellipeincOf, onSizeOf, steepOf, signOf}
 

@@ -16,7 +16,7 @@ use Rattle.answer.specs.Answer.{valueOf}
 use Rattle.answer.specs.declared.Answer.the-variants.{One, Infinite, Refused}
 use Rattle.root.specs.Root.{rootOf}
 use Rattle.whole.specs.Whole.{magnitudeOf}
-use Rattle.kernel.specs.Sine.{sineOf}
+use Rattle.angle.specs.Sine.{sineOf}
 use Rattle.legendre.specs.Ellipe.{ellipeOf}
 use Rattle.incomplete.specs.declared.Fold.{Fold}
 use Rattle.answer.specs.Settle.{handedOf}

@@ -9,7 +9,7 @@ use Rattle.laws.specs.Arithmetic.{_⊗_, _<·_, _≤·_, _=·_, _≠·_, +0, mo
 use Rattle.whole.specs.Whole.{magnitudeOf}
 use Rattle.answer.specs.Answer.{valueOf}
 use Rattle.answer.specs.laws.Fair.{May, Fair, among, refused, answered, rung, handed-fair}
-use Rattle.kernel.specs.Sine.{sineOf}
+use Rattle.angle.specs.Sine.{sineOf}
 use Rattle.incomplete.specs.declared.Fold.{Fold}
 use Rattle.incomplete.specs.Period.{far-out, foldedOf}
 use Rattle.ellipeinc.specs.Ellipeinc.{signOf, itselfOf, farOf, steepOf, lineOf, ownOf, withPeriodsOf, byRecipeOf, reducedOf, onSizeOf, ellipeincOf}

@@ -7,9 +7,9 @@ use Rattle.answer.specs.Answer.{valueOf}
 use Rattle.answer.specs.declared.Answer.the-variants.{One, Infinite, Refused}
 use Rattle.root.specs.Root.{rootOf}
 use Rattle.whole.specs.Whole.{magnitudeOf, roundOf}
-use Rattle.kernel.specs.Alternating.{squareOf, alternatingOf, upToFour}
-use Rattle.kernel.specs.Sine.{sineAt, sineOf}
-use Rattle.kernel.specs.Cosine.{cosineAt, cosineOf}
+use Rattle.angle.specs.Alternating.{squareOf, alternatingOf, upToFour}
+use Rattle.angle.specs.Sine.{sineAt, sineOf}
+use Rattle.angle.specs.Cosine.{cosineAt, cosineOf}
 use Rattle.legendre.specs.Mean.{arithmeticOf, geometricOf, goesOnOf}
 use Rattle.legendre.specs.Mean as Mean
 use Rattle.legendre.specs.Ellipk.{goesOn, nextOf, kFromOf, lastMeansOf, kMeanOf, kUncheckedOf}

@@ -16,10 +16,10 @@ use Rattle.laws.specs.Ladder.{held, passed, when_gives_else_}
 use Rattle.answer.specs.Answer.{valueOf}
 use Rattle.answer.specs.declared.Answer.{Answer}
 use Rattle.answer.specs.declared.Answer.the-variants.{One, Pair, Infinite, Refused}
-use Rattle.kernel.specs.Sine.{sineOf}
-use Rattle.kernel.specs.Alternating.{squareOf, alternatingOf, upToFour}
-use Rattle.kernel.specs.Cosine.{cosineAt, cosineOf}
-use Rattle.kernel.specs.Symmetry.{negated, sine-odd, sine-zero, sine-minus-zero}
+use Rattle.angle.specs.Sine.{sineOf}
+use Rattle.angle.specs.Alternating.{squareOf, alternatingOf, upToFour}
+use Rattle.angle.specs.Cosine.{cosineAt, cosineOf}
+use Rattle.angle.specs.laws.Symmetry.{negated, sine-odd, sine-zero, sine-minus-zero}
 use Rattle.legendre.specs.Ellipk.{kUncheckedOf}
 use Rattle.whole.specs.Whole.{magnitudeOf, roundOf}
 use Rattle.root.specs.Root.{rootOf}

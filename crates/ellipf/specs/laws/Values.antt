@@ -9,7 +9,7 @@ use Rattle.laws.specs.Arithmetic.{_⊗_, _<·_, _≤·_, _=·_, _≠·_, +0, +�
 use Rattle.whole.specs.Whole.{magnitudeOf}
 use Rattle.answer.specs.Answer.{valueOf}
 use Rattle.answer.specs.laws.Fair.{May, Fair, among, refused, answered, rung, settled-fair, handed-fair}
-use Rattle.kernel.specs.Sine.{sineOf}
+use Rattle.angle.specs.Sine.{sineOf}
 use Rattle.answer.specs.declared.Term.{Term}
 use Rattle.answer.specs.Settle.{infiniteOf}
 use Rattle.incomplete.specs.Period.{far-out, foldedOf}

@@ -8,7 +8,8 @@ use lib.Ieee.{Float, binary64, sum}
 use borrow.Author.Needs.{needs}
 use Rattle.laws.specs.laws.Flags.{holds, fails}
 use Rattle.bits.specs.Rounded.{roundedOf}
-use Rattle.fused.specs.Steps.{val, without}
+use Rattle.bits.specs.Wide.{val}
+use Rattle.fused.specs.Steps.{without}
 use Rattle.fused.proofs.Sums as sums
 use Rattle.fused.proofs.sum_at.Statement.{statement}
 use Rattle.fused.proofs.sum_at.Tie as tie

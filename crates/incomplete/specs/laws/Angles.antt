@@ -19,9 +19,9 @@ use Rattle.laws.specs.laws.Kinds.{not-nan}
 use Rattle.laws.specs.laws.Rounding.{Near}
 use Rattle.whole.specs.Whole.{magnitudeOf, roundOf}
 use Rattle.answer.specs.Answer.{refusalOf}
-use Rattle.kernel.specs.Sine.{sineOf}
-use Rattle.kernel.specs.Cosine.{cosineOf}
-use Rattle.kernel.specs.Answered.{sine-answers, cosine-answers}
+use Rattle.angle.specs.Sine.{sineOf}
+use Rattle.angle.specs.Cosine.{cosineOf}
+use Rattle.angle.specs.laws.Answered.{sine-answers, cosine-answers}
 use Rattle.incomplete.specs.declared.Fold.{Fold}
 use Rattle.incomplete.specs.Period.{foldedOf}
 use Rattle.whole.specs.laws.Magnitude.{magnitude-fin, magnitude-value, within, at-most-finite, at-most-size}

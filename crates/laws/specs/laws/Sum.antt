@@ -47,7 +47,7 @@ sum-comm f true false a b c = swap f a b c
 sum-comm f false true a b c = sym (swap f b a c)
 
 -- ---- another denominator
-ltb-same : (a b x y : ℕ) → (a < b → x < y) → (x < y → a < b) → ltb a b ≡ ltb x y
+pub ltb-same : (a b x y : ℕ) → (a < b → x < y) → (x < y → a < b) → ltb a b ≡ ltb x y
 ltb-same a b x y g h = go (ltb x y) (ltb→lt x y) (nltb→le x y)
   where
     go : (q : Bool) → (T q → x < y) → (T (not q) → y ≤ x) → ltb a b ≡ q

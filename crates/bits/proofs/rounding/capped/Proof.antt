@@ -1,7 +1,7 @@
 -- `capped` meets its contract.
 use lib.Dec.{lit≤}
 use borrow.Author.Needs.{needs}
-use Rattle.bits.specs.Once.{rounded-far}
+use Rattle.bits.specs.laws.Once.{rounded-far}
 use Rattle.bits.proofs.rounding.capped.Statement.{statement}
 use Rattle.bits.proofs.rounding.capped.Tie as tie
 

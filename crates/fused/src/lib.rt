@@ -1,5 +1,10 @@
-// The fused multiply-add: the product as two limbs, the addend beside it at the larger of the two
-// exponents, one sum or difference, one rounding. Exact numbers count in 2^-2340.
+// The fused multiply-add (01, module 1; IEEE 754-2019, 5.4.1): x·y + z exactly, rounded once.
+//
+// The digits of x, y and z are moved up to 63 places, so that the product has 125 or 126 in two limbs, and so has the
+// addend with zeros behind it. The one with the smaller exponent is shifted down to the other's place, which may lose
+// some of it; what is lost lies far below the digits that a result keeps, so it is enough to know whether it was
+// anything. Then one sum, or one difference less a place where something was lost, and one rounding. Exact numbers
+// count in 2^-2340.
 ghost use mathlib.Core.Path.{_≡_};
 ghost use mathlib.Core.Bool.{cond, _&&_};
 ghost use Prim.Native.Nat.{_+_, _*_, _^_, _<_, _≤_};
@@ -18,6 +23,11 @@ use limbs::Left;
 use limbs::shifted;
 
 mod limbs;
+
+// A product of digits moved up 63 places each counts in 2^-(2·1074 + 2·63), an addend's upper limb in 2^-(1074 + 63 + 64).
+const PRODUCT_UNIT: u64 = 2340 - 2 * 1074 - 2 * 63;
+
+const ADDEND_UNIT: u64 = 2340 - 1074 - 63 - 64;
 
 // A float's digits moved up to 63 places; 0 stays 0.
 struct Lift {
@@ -60,7 +70,7 @@ fn place_product(x: Parts, y: Parts) -> Place
     Place {
         high: p.high,
         low: p.low,
-        exponent: a.exponent + b.exponent + 66,
+        exponent: a.exponent + b.exponent + PRODUCT_UNIT,
     }
 }
 
@@ -79,7 +89,7 @@ fn place_addend(z: Parts) -> Place
     Place {
         high: c.digits,
         low: 0,
-        exponent: c.exponent + 1139,
+        exponent: c.exponent + ADDEND_UNIT,
     }
 }
 

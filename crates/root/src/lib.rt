@@ -1,4 +1,10 @@
-// The square root, digit by digit: shifts and subtractions, and no branch on a digit.
+// The square root (01, module 1; IEEE 754-2019, 5.4.1), digit by digit: shifts and subtractions, and no branch on a digit.
+//
+// The digits of x are moved up to 63 or 64 places, so that what is left of its exponent is even, and 44 zeros follow
+// them: the root of that number has 54 digits, one more than an f64. After i steps `next` is 4r + 1 and `rest` what r·r
+// leaves, at most 2r, where r is the whole root of the number's first 2i digits. The next digit of the root is 1 where
+// `next` can be taken from four times the rest and the next two digits. The last digit, and whether there is any rest,
+// decide the one rounding.
 ghost use mathlib.Core.Path.{_≡_};
 ghost use Prim.Native.Nat.{ℕ, _+_, _*_, _^_, _<_, _≤_};
 ghost use Rattle.root.specs.Root.{rootOf, roundRoot};
@@ -51,6 +57,12 @@ fn digits(radicand: u64) -> Found
     }
 }
 
+// x counts in 2^-1074, and 44 zeros follow its digits.
+const SPARE: u64 = 1074 - 44;
+
+// The rounding counts in 2^-2340, the root in 2^-1074; its 54 digits lead the upper limb.
+const UNIT: u64 = 2340 - 1074 - 64 - 10;
+
 // A float's digits moved up to 63 or 64 places, so that the rest of its exponent is even.
 struct Radicand {
     digits: u64,
@@ -65,7 +77,7 @@ fn aligned(sig: u64, exp: u64) -> Radicand
     let shift = zeros - (exp + zeros) % 2;
     Radicand {
         digits: sig << shift,
-        half: (exp + 1030 - shift) / 2,
+        half: (exp + SPARE - shift) / 2,
     }
 }
 
@@ -76,7 +88,7 @@ fn root_of(sig: u64, exp: u64) -> f64
 {
     let a = aligned(sig, exp);
     let p = digits(a.digits);
-    bits::rounded(false, p.root << 10, 0, p.rest > 0, a.half + 1192)
+    bits::rounded(false, p.root << 10, 0, p.rest > 0, a.half + UNIT)
 }
 
 pub fn root(x: f64) -> f64

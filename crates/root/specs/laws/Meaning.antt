@@ -2,14 +2,15 @@
 use mathlib.Core.Path.{_≡_, refl, sym, ap, _∙_, subst}
 use mathlib.Core.Bool.{Bool, true, false, not, cond}
 use Prim.Native.Nat.{ℕ, zero, suc, _+_, _-_, _*_, _/_, _%_, _^_, _≤_, _<_, zero-le, compare, Ordering, Ordering·lt, Ordering·eq, Ordering·gt}
-use native.Mathlib.Nat.{le-trans, le-of-eq, le-of-lt, lt-of-le-of-lt, lt-of-lt-of-le, lt-of-not-le, not-le-of-lt, mul-one, mul-le-mul, mul-le-mul-left, mul-le-mul-right, mul-mul-mul-comm, mul-div-cancel, pow-suc, div-lt-iff-lt-mul, div-mul-le-self, zero-lt-suc, div-add-mod', mod-lt, lt-irrefl, mul-lt-mul-of-pos-right, mul-right-comm, lt-of-mul-lt-mul-right, add-zero}
+use native.Mathlib.Nat.{le-trans, le-of-eq, le-of-lt, lt-of-le-of-lt, lt-of-lt-of-le, lt-of-not-le, not-le-of-lt, mul-one, mul-le-mul, mul-le-mul-left, mul-le-mul-right, mul-mul-mul-comm, mul-div-cancel, pow-suc, div-lt-iff-lt-mul, div-mul-le-self, le-div-iff-mul-le, zero-lt-suc, div-add-mod', mod-lt, lt-irrefl, mul-lt-mul-of-pos-right, mul-right-comm, lt-of-mul-lt-mul-right, add-zero}
 use native.Mathlib.Omega.{arith}
 use lib.Dec.{T, leb, ltb→lt, leb→le, nleb→lt, lit<}
 use lib.Pow.{pow-add, pow-pos, pow-lt}
 use lib.Ieee.{Float, fin, binary64, down, up, size, nearest, units, fits}
-use lib.Ieee.Digits.{size-lt, size-le}
+use lib.Ieee.Digits.{size-lt, size-le, size-reaches}
 use lib.Ieee.Exact.{HasValue, units-val}
 use lib.Ieee.Fits.{down-pos, nearest-le, kept-lt}
+use lib.Ieee.Nearest.{nearest-ge}
 use lib.Ieee.Positive.{positive}
 use lib.Ieee.Scale.{overflow}
 use Rattle.laws.specs.laws.Exact.{fits-bounds}
@@ -171,3 +172,13 @@ root-nearest x s n p f h =
       subst (λ (y : Float). HasValue y false (kept N * 2 ^ dropped N) (2 ^ 1074)) (sym (root-at x s n p h ∙ w .0)) (units-val binary64 false (kept N) (dropped N) (kept-small n (value-lt x s n p f h))),
       w .1,
     )
+
+-- Where digits are dropped 2 ^ k is the place of the last of 53, and the root is not below the lowest number of 53 digits there: the multiples of 2 ^ k beside it are neighbouring f64, and the middles of `Between` are theirs.
+pub root-unit : (n : ℕ) → 0 < dropped n → (2 ^ 52 ≤ kept n) × (kept n ≤ 2 ^ 53) × (square (2 ^ 52 * 2 ^ dropped n) ≤ n)
+root-unit n h =
+    let r = wholeRoot n in
+    let k = dropped n in
+    let a : 2 ^ (52 + k) ≤ r = size-reaches r (52 + k) (let z : 52 + k < size r = omega arith in z) in
+    let b : 2 ^ 52 * 2 ^ k ≤ r = le-trans (le-of-eq (sym (pow-add 2 52 k))) a in
+    let c : 2 ^ 52 ≤ r / 2 ^ k = le-div-iff-mul-le (pow-pos k) .1 b in
+    (le-trans c (nearest-ge (r / 2 ^ k) (side n)), le-trans (nearest-le (r / 2 ^ k) (side n)) (kept-lt 53 r), le-trans (square-up (2 ^ 52 * 2 ^ k) r b) (whole-root-is n .0))

@@ -2,7 +2,7 @@
 """check_tables.py COEFFS_RS [CRATE]: holds every digit of the tables against the crate's coeffs.rs.
 
 Three texts are compared, coefficient by coefficient: coeffs.rs (the source), CRATE/src/coeffs.rt (the code's padded table and its
-lengths) and CRATE/specs/Coeffs.antt (the definition's decimals). CRATE is crates/legendre beside this folder unless it is given.
+lengths) and CRATE/specs/Coeffs.antt (the definition's decimals). CRATE is crates/pieces beside this folder unless it is given.
 Digits are compared as text, so a digit that no f64 shows counts too. It prints one line and exits with 0 where all agree."""
 import os
 import re
@@ -11,7 +11,7 @@ import sys
 if len(sys.argv) not in (2, 3):
     sys.exit(__doc__)
 here = os.path.dirname(os.path.abspath(__file__))
-crate = sys.argv[2] if len(sys.argv) == 3 else os.path.join(here, "..", "crates", "legendre")
+crate = sys.argv[2] if len(sys.argv) == 3 else os.path.join(here, "..", "crates", "pieces")
 PIECES = "0_1 2_3 4_5 6_7 8_9 10_11 12_13 14_15 16 17".split()
 WIDTH = 20
 

@@ -1,9 +1,4 @@
--- What the contracts cite: the loop, the shared series, and the four recipes.
+-- What the recipes share: the loop, and the series that closes RD and RJ; then what is proved of them.
 pub mod Loop
 pub mod Series
-pub mod Rf
-pub mod Rc
-pub mod Rd
-pub mod Rj
--- what is proved of them
-pub mod Unmet
+pub mod laws

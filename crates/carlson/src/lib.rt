@@ -1,17 +1,7 @@
-// Carlson's symmetric integrals RF, RC, RD and RJ by duplication (01, module 5; DLMF 19.36(i); Carlson 1995).
+// What Carlson's symmetric integrals share: each of RF, RC, RD and RJ is a crate of its own, by duplication (01, module 5; DLMF 19.36(i); Carlson 1995).
 // docs/STEPS.md writes the steps down and says what negative, infinite and NaN arguments do.
 ghost use mathlib.Core.Path.{_≡_};
 ghost use Rattle.carlson.specs.Series.{largerOf, fifthOf};
-
-mod degenerate;
-mod first_kind;
-mod second_kind;
-mod third_kind;
-
-pub use degenerate::rc;
-pub use first_kind::rf;
-pub use second_kind::rd;
-pub use third_kind::rj;
 
 // What a recipe gives: `value` counts only where `met`, else the refusal is 5.
 pub struct Outcome {
@@ -22,14 +12,14 @@ pub struct Outcome {
     pub inside: usize,
 }
 
-pub(crate) fn larger(a: f64, b: f64) -> f64
+pub fn larger(a: f64, b: f64) -> f64
     ensures { λ r. ⌜ r ≡ largerOf a b ⌝ }
 {
     if a < b { b } else { a }
 }
 
 // The closing series that RD and RJ share.
-pub(crate) fn fifth(e2: f64, e3: f64, e4: f64, e5: f64) -> f64
+pub fn fifth(e2: f64, e3: f64, e4: f64, e5: f64) -> f64
     ensures { λ r. ⌜ r ≡ fifthOf e2 e3 e4 e5 ⌝ }
 {
     1.0 - 3.0 * e2 / 14.0 + e3 / 6.0 + 9.0 * e2 * e2 / 88.0 - 3.0 * e4 / 22.0 - 9.0 * e2 * e3 / 52.0

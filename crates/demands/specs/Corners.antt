@@ -2,7 +2,7 @@
 use Rattle.root.specs.laws.Corners.{RootCorners, root-corners}
 use Rattle.fused.specs.laws.Corners.{FusedCorner, fused-corner}
 use Rattle.whole.specs.laws.Corners.{WholeCorners, whole-corners}
-use Rattle.legendre.specs.Corners as complete
+use Rattle.legendre.specs.laws.Corners as complete
 use Rattle.incomplete.specs.Corners as incomplete
 
 pub record CornerTable : Type 0 where

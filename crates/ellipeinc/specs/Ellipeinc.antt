@@ -11,8 +11,8 @@ use Rattle.whole.specs.Whole.{magnitudeOf, floorOf, roundOf}
 use Rattle.angle.specs.Sine.{sineOf}
 use Rattle.angle.specs.Cosine.{cosineOf}
 use Rattle.legendre.specs.Ellipe.{ellipeOf}
-use Rattle.carlson.specs.Rf.{rfOf}
-use Rattle.carlson.specs.Rd.{rdOf}
+use Rattle.rf.specs.Rf.{rfOf}
+use Rattle.rd.specs.Rd.{rdOf}
 use Rattle.answer.specs.Settle.{handedOf}
 use Rattle.incomplete.specs.Period.{far-out, foldedOf}
 use Rattle.answer.specs.declared.Term.{Term}

@@ -5,8 +5,6 @@ use answer::Answer;
 use answer::Parameter;
 use answer::Term;
 use answer::handed;
-use carlson::rd;
-use carlson::rf;
 use incomplete::FAR_OUT;
 use incomplete::Fold;
 use incomplete::PI;
@@ -14,6 +12,8 @@ use incomplete::complete_e;
 use incomplete::cosine;
 use incomplete::folded;
 use incomplete::sine;
+use rd::rd;
+use rf::rf;
 ghost use mathlib.Core.Path.{_≡_};
 ghost use Rattle.ellipeinc.specs.Ellipeinc.{signOf, itselfOf, farOf, steepOf, lineOf, ownOf, belowOf, aboveOf, recipeOf, withPeriodsOf, byRecipeOf, reducedOf, onSizeOf, ellipeincOf};
 
@@ -49,7 +49,8 @@ fn steep(sign: f64, size: f64, m: f64) -> Answer
     ensures { λ r. ⌜ r ≡ steepOf sign size m ⌝ }
 {
     let periods = whole::floor(size / PI);
-    let h = sine(size % PI / 2.0);
+    let rest = remainder::remainder(size, PI);
+    let h = sine(rest / 2.0);
     let area = 2.0 * (periods + h * h);
     handed(sign * area * root::root(-m))
 }

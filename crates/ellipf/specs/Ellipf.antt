@@ -10,7 +10,7 @@ use Rattle.whole.specs.Whole.{magnitudeOf}
 use Rattle.angle.specs.Sine.{sineOf}
 use Rattle.angle.specs.Cosine.{cosineOf}
 use Rattle.legendre.specs.Ellipk.{kUncheckedOf}
-use Rattle.carlson.specs.Rf.{rfOf}
+use Rattle.rf.specs.Rf.{rfOf}
 use Rattle.answer.specs.Settle.{infiniteOf, settledOf, handedOf}
 use Rattle.incomplete.specs.Period.{far-out, foldedOf}
 use Rattle.answer.specs.declared.Term.{Term}

@@ -8,12 +8,12 @@ use answer::handed;
 use answer::infinite;
 use answer::infinity;
 use answer::settled;
-use carlson::rf;
 use incomplete::FAR_OUT;
 use incomplete::HALF_PI;
 use incomplete::cosine;
 use incomplete::folded;
 use incomplete::sine;
+use rf::rf;
 ghost use mathlib.Core.Path.{_≡_};
 ghost use Rattle.ellipf.specs.Ellipf.{signumOf, poleOf, farOf, middleOf, recipeOf, closedOf, withPeriodsOf, reducedOf, ellipfOf};
 

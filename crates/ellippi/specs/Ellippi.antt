@@ -8,8 +8,8 @@ use Rattle.answer.specs.declared.Answer.{Answer}
 use Rattle.answer.specs.declared.Answer.the-variants.{One, Infinite, Refused}
 use Rattle.legendre.specs.Ellipk.{ellipkOf}
 use Rattle.legendre.specs.Ellipe.{ellipeOf}
-use Rattle.carlson.specs.Rf.{rfOf}
-use Rattle.carlson.specs.Rj.{rjOf}
+use Rattle.rf.specs.Rf.{rfOf}
+use Rattle.rj.specs.Rj.{rjOf}
 use Rattle.answer.specs.Settle.{settledOf}
 use Rattle.answer.specs.declared.Term.{Term}
 

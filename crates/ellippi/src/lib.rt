@@ -6,11 +6,11 @@ use answer::Parameter;
 use answer::Term;
 use answer::infinity;
 use answer::settled;
-use carlson::rf;
-use carlson::rj;
 use incomplete::HALF_PI;
 use incomplete::complete_e;
 use incomplete::complete_k;
+use rf::rf;
+use rj::rj;
 ghost use mathlib.Core.Path.{_≡_};
 ghost use Rattle.ellippi.specs.Ellippi.{plainTerm, fromRestOf, principalOf, bothBelowOf, firstBelowOf, firstZeroOf, diagonalOf, armsOf, ellippiOf};
 

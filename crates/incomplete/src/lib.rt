@@ -50,9 +50,10 @@ pub struct Fold {
 pub fn folded(size: f64) -> Fold
     ensures { λ r. ⌜ r ≡ foldedOf size ⌝ }
 {
-    let rest = size % HALF_PI;
+    let rest = remainder::remainder(size, HALF_PI);
     let mm = whole::round((size - rest) / HALF_PI);
-    if mm % 2.0 > 0.5 {
+    let odd = remainder::remainder(mm, 2.0);
+    if odd > 0.5 {
         return Fold {
             angle: HALF_PI - rest,
             mm: mm + 1.0,

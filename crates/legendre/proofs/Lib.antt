@@ -1,3 +1,2 @@
 -- What more than one function's proof cites.
 mod Iteration
-mod Rows

@@ -7,7 +7,7 @@ use Rattle.laws.specs.Ladder.{when_gives_else_}
 use Rattle.root.specs.Root.{rootOf}
 use Rattle.answer.specs.declared.Answer.{Answer}
 use Rattle.answer.specs.declared.Answer.the-variants.{Refused}
-use Rattle.legendre.specs.Piece.{pieceOf, centreOf}
+use Rattle.pieces.specs.Piece.{pieceOf, centreOf}
 
 -- the answers at 1, at -∞, for finite m < 0 and for 0 ≤ m < 1
 unfoldable pub byDomain : Float → Answer → Answer → Answer → Answer → Answer

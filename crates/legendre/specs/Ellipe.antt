@@ -12,7 +12,7 @@ use Rattle.answer.specs.declared.Answer.the-variants.{One, Infinite}
 use Rattle.logarithm.specs.Logarithm.{logarithmOf}
 use Rattle.legendre.specs.Domain.{byDomain, belowOneOf}
 use Rattle.legendre.specs.Mean.{arithmeticOf, geometricOf, goesOnOf, iterated}
-use Rattle.legendre.specs.Piece.{ePieceOf}
+use Rattle.pieces.specs.Piece.{ePieceOf}
 use Rattle.legendre.specs.declared.e.Sums.{Sums}
 
 -- 2^-26, the root of the Rust's EPSILON
@@ -23,13 +23,17 @@ abbrev pub √ε : Float
 abbrev pub eTolerance : Float
 eTolerance = dec 27 1 ⊗ ε
 
+-- the power of two of the sum's first term
+abbrev pub ¼ : Float
+¼ = float 0x3fd0_0000_0000_0000
+
 -- ---- the means with the sum of their squared differences (DLMF 19.8.6), which ellipke.rs runs too
 
 unfoldable pub startOf : Float → Sums
 startOf y0 =
     let mean = arithmeticOf 1·0 y0 in
     let e = mean ⊗ mean in
-    record { x = 1·0; y = y0; e = e; compensation = fusedOf mean mean (neg e); power = float 0x3fd0_0000_0000_0000 }
+    record { x = 1·0; y = y0; e = e; compensation = fusedOf mean mean (neg e); power = ¼ }
 
 unfoldable pub nextOf : Sums → Sums
 nextOf s =

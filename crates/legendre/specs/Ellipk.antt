@@ -7,7 +7,7 @@ use Rattle.answer.specs.declared.Answer.{Answer}
 use Rattle.answer.specs.declared.Answer.the-variants.{One, Infinite}
 use Rattle.legendre.specs.Domain.{byDomain, belowOneOf}
 use Rattle.legendre.specs.Mean.{arithmeticOf, geometricOf, goesOnOf, iterated}
-use Rattle.legendre.specs.Piece.{kPieceOf}
+use Rattle.pieces.specs.Piece.{kPieceOf}
 use Rattle.legendre.specs.declared.k.Means.{Means}
 
 abbrev pub kTolerance : Float

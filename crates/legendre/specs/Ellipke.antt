@@ -7,7 +7,7 @@ use Rattle.root.specs.Root.{rootOf}
 use Rattle.answer.specs.declared.Answer.{Answer}
 use Rattle.answer.specs.declared.Answer.the-variants.{Pair}
 use Rattle.legendre.specs.Domain.{byDomain, belowOneOf}
-use Rattle.legendre.specs.Piece.{kPieceOf, ePieceOf}
+use Rattle.pieces.specs.Piece.{kPieceOf, ePieceOf}
 use Rattle.legendre.specs.Ellipk.{kFromOf}
 use Rattle.legendre.specs.Ellipe.{√ε, lastSumsOf, nearOneOf, eFromOf}
 use Rattle.legendre.specs.declared.ke.Both.{Both}

@@ -2,12 +2,12 @@
 use crate::EPSILON;
 use crate::PI;
 use crate::ROOT_EPSILON;
-use crate::coeffs::centre;
-use crate::coeffs::e_piece;
-use crate::coeffs::piece;
 use crate::k::arithmetic;
 use crate::k::geometric;
 use crate::k::goes_on;
+use pieces::centre;
+use pieces::e_piece;
+use pieces::piece;
 ghost use mathlib.Core.Path.{_≡_};
 ghost use Rattle.legendre.specs.Ellipe.{startOf, nextOf, lastSumsOf, lnOf, nearOneOf, eFromOf, eMeanOf, eBelowOneOf, eNegativeOf};
 

@@ -1,8 +1,8 @@
 // K below 1 (ellipk.rs): by its piece, or by the arithmetic-geometric mean (DLMF 19.8.5), whose steps e.rt shares.
 use crate::PI;
-use crate::coeffs::centre;
-use crate::coeffs::k_piece;
-use crate::coeffs::piece;
+use pieces::centre;
+use pieces::k_piece;
+use pieces::piece;
 ghost use mathlib.Core.Path.{_≡_};
 ghost use Rattle.legendre.specs.Mean.{arithmeticOf, geometricOf, goesOnOf};
 ghost use Rattle.legendre.specs.Ellipk.{nextOf, lastMeansOf, kFromOf, kMeanOf, kBelowOneOf};

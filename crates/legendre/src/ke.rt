@@ -1,14 +1,14 @@
 // K and E together below 1 (ellipke.rs): one run of the mean for both.
 use crate::ROOT_EPSILON;
-use crate::coeffs::centre;
-use crate::coeffs::e_piece;
-use crate::coeffs::k_piece;
-use crate::coeffs::piece;
 use crate::e::e_from;
 use crate::e::last_sums;
 use crate::e::near_one;
 use crate::k::k_from;
 use answer::Answer;
+use pieces::centre;
+use pieces::e_piece;
+use pieces::k_piece;
+use pieces::piece;
 ghost use mathlib.Core.Path.{_≡_};
 ghost use Rattle.legendre.specs.Ellipke.{bothMeanOf, bothBelowOneOf, scaledOf, bothNegativeOf, pairOf};
 

@@ -1,5 +1,5 @@
 // Complete elliptic integrals of the first and second kind, K(m) and E(m), for m ≤ 1 (01, modules 3 and 4; crate ellip 1.2.3).
-// NaN is refusal 1 and m > 1 refusal 2. coeffs.rt and polyeval.rt are coeffs.rs and polyeval.rs; k.rt, e.rt and ke.rt what ellipk.rs, ellipe.rs and ellipke.rs do below 1.
+// NaN is refusal 1 and m > 1 refusal 2. k.rt, e.rt and ke.rt are what ellipk.rs, ellipe.rs and ellipke.rs do below 1; the crate pieces has their tables.
 use crate::e::e_below_one;
 use crate::e::e_negative;
 use crate::k::k_below_one;
@@ -14,11 +14,9 @@ ghost use Rattle.legendre.specs.Ellipk.{kUncheckedOf, ellipkOf};
 ghost use Rattle.legendre.specs.Ellipe.{ellipeOf};
 ghost use Rattle.legendre.specs.Ellipke.{ellipkeOf};
 
-mod coeffs;
 mod e;
 mod k;
 mod ke;
-mod polyeval;
 
 // std's own digits
 const PI: f64 = 3.14159265358979323846264338327950288;
@@ -27,6 +25,11 @@ const EPSILON: f64 = 2.2204460492503131e-16;
 
 // 2^-26, the root of EPSILON, exactly
 const ROOT_EPSILON: f64 = 1.490116119384765625e-8;
+
+// by their patterns
+const INFINITY: u64 = 0x7ff0_0000_0000_0000;
+
+const MINUS_INFINITY: u64 = 0xfff0_0000_0000_0000;
 
 // K(m), DLMF 19.2.8: K(1) = ∞, K(-∞) = 0.
 pub fn ellipk(m: Parameter) -> Answer
@@ -42,7 +45,7 @@ pub fn ellipk(m: Parameter) -> Answer
     if m == 1.0 {
         return Answer::Infinite(false);
     }
-    if m == f64::from_bits(0xfff0_0000_0000_0000) {
+    if m == f64::from_bits(MINUS_INFINITY) {
         return Answer::One(0.0);
     }
     if m < 0.0 {
@@ -72,7 +75,7 @@ pub fn ellipe(m: Parameter) -> Answer
     if m == 1.0 {
         return Answer::One(1.0);
     }
-    if m == f64::from_bits(0xfff0_0000_0000_0000) {
+    if m == f64::from_bits(MINUS_INFINITY) {
         return Answer::Infinite(false);
     }
     if m < 0.0 {
@@ -93,10 +96,10 @@ pub fn ellipke(m: Parameter) -> Answer
         return Answer::Refused(2);
     }
     if m == 1.0 {
-        return Answer::Pair(f64::from_bits(0x7ff0_0000_0000_0000), 1.0);
+        return Answer::Pair(f64::from_bits(INFINITY), 1.0);
     }
-    if m == f64::from_bits(0xfff0_0000_0000_0000) {
-        return Answer::Pair(0.0, f64::from_bits(0x7ff0_0000_0000_0000));
+    if m == f64::from_bits(MINUS_INFINITY) {
+        return Answer::Pair(0.0, f64::from_bits(INFINITY));
     }
     if m < 0.0 {
         return pair(both_negative(root::root(1.0 - m), m / (m - 1.0)));

@@ -21,7 +21,8 @@ use Rattle.incomplete.specs.Period.{far-out}
 use Rattle.incomplete.specs.laws.Angles.{P, small-le, rest-small}
 use Rattle.ellipeinc.specs.Ellipeinc.{halfRest, halfTurns, lineRest}
 use Rattle.whole.specs.laws.Magnitude.{magnitude-fin, within, within-size}
-use Rattle.laws.specs.laws.Cuts.{U, Cut, cut, Small, small-round, mul-is, left-of, left-small}
+use Rattle.laws.specs.laws.Operations.{mul-is}
+use Rattle.laws.specs.laws.Cuts.{U, Cut, cut, Small, small-round, left-of, left-small}
 
 -- the f64 π is P / Q
 abbrev Q : ℕ
@@ -115,7 +116,7 @@ line-small m e h =
     let w : M ≤ turns + 1 = whole-small turns (q .g) M U H (quot-small P Q reach turns a c (q .g) U (2 ^ 1072) C (lit< tt) (lit≤ tt) h refl (q .near .0)) (n .0) in
     let v : HasValue mm false M 1 = subst (λ (x : Float). HasValue x false M 1) (sym (round-fraction (fin false m e ⊘ π) false (q .g) U H (q .value))) (round-whole binary64 false M (le-trans w (lit≤ tt))) in
     let p : Cut (mm ⊗ π) false (M * P) (1 * Q) (2 ^ 1074) =
-    subst (λ (x : Float). Cut x false (M * P) (1 * Q) (2 ^ 1074)) (sym (mul-is binary64 mm π M 1 P Q (lit< tt) (lit< tt) v (refl, refl)))
+    subst (λ (x : Float). Cut x false (M * P) (1 * Q) (2 ^ 1074)) (sym (mul-is binary64 mm π false false M P 1 Q (lit< tt) (lit< tt) v (refl, refl)))
     (cut false (M * P) (1 * Q) 1074 (9007199254740992 * U) (lit< tt) refl (prod-fits P Q (turns + 1) 9007199254740992 M U H (lit< tt) w) (lit< tt)) in
     let l = left-of m e (mm ⊗ π) (p .g) (p .value) (chain a c (q .g) M (p .g) U (2 ^ 1072) refl (q .near) n (p .near)) in
     small-le _ (l .s) (left-small _ l)

@@ -15,7 +15,7 @@ use Rattle.legendre.specs.Mean as Mean
 use Rattle.legendre.specs.Ellipk.{goesOn, nextOf, kFromOf, lastMeansOf, kMeanOf, kUncheckedOf}
 use Rattle.carlson.specs.Loop as Loop
 use Rattle.carlson.specs.Series.{largerOf}
-use Rattle.carlson.specs.Rf as Rf
+use Rattle.rf.specs.Rf as Rf
 use Rattle.answer.specs.Settle.{infiniteOf, finiteOf, settledOf, handedOf}
 use Rattle.incomplete.specs.Period.{foldedOf}
 use Rattle.ellipf.specs.Ellipf.{signumOf, poleOf, farOf, middleOf, recipeOf, closedOf, withPeriodsOf, reducedOf, ellipfOf}

@@ -25,9 +25,9 @@ use Rattle.whole.specs.Whole.{magnitudeOf, roundOf}
 use Rattle.root.specs.Root.{rootOf}
 use Rattle.carlson.specs.Loop.{iterate, duplicated}
 use Rattle.carlson.specs.Series.{largerOf}
-use Rattle.carlson.specs.Rf.{rfOf, startOf, stopsOf, seriesOf}
-use Rattle.carlson.specs.Rf as Rf
-use Rattle.carlson.specs.Unmet.{rf-unmet}
+use Rattle.rf.specs.Rf.{rfOf, startOf, stopsOf, seriesOf}
+use Rattle.rf.specs.Rf as Rf
+use Rattle.rf.specs.laws.Unmet.{rf-unmet}
 use Rattle.answer.specs.declared.Term.{Term}
 use Rattle.incomplete.specs.declared.Fold.{Fold}
 use Rattle.answer.specs.Settle.{infiniteOf, finiteOf, settledOf, handedOf}

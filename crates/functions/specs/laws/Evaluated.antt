@@ -15,7 +15,7 @@ use Rattle.answer.specs.laws.Sound as sound
 use Rattle.answer.specs.laws.Fair.{numeric, fair-sound}
 use Rattle.answer.specs.declared.Answer.{Answer}
 use Rattle.answer.specs.declared.Answer.the-variants.{One, Pair, Infinite, Refused}
-use Rattle.legendre.specs.Values.{ellipk-answers, ellipe-answers, ellipke-answers}
+use Rattle.legendre.specs.laws.Values.{ellipk-answers, ellipe-answers, ellipke-answers}
 use Rattle.ellippi.specs.laws.Values.{ellippi-may, ellippi-fair}
 use Rattle.ellipeinc.specs.laws.Values.{ellipeinc-may, ellipeinc-fair}
 use Rattle.ellipf.specs.laws.Values.{ellipf-may, ellipf-fair}

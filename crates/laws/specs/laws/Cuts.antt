@@ -1,18 +1,18 @@
 -- Roundings with an absolute error, in units of 2 ^ -1074: below 2 ^ (53 + d) units a rounding is off by at most half of 2 ^ d, subnormal or not. Assumes nothing.
-use mathlib.Core.Path.{_≡_, refl, sym, ap, ap₂, _∙_, subst}
+use mathlib.Core.Path.{_≡_, refl, sym, ap, subst}
 use Prim.Native.Nat.{ℕ, _+_, _-_, _*_, _/_, _^_, _≤_, _<_}
-use native.Mathlib.Nat.{le-trans, le-of-eq, le-of-lt, lt-of-le-of-lt, mul-pos, mul-mul-mul-comm, mul-le-mul-left, mul-le-mul-right, le-of-mul-le-mul-right, div-lt-iff-lt-mul}
+use native.Mathlib.Nat.{le-trans, le-of-eq, le-of-lt, lt-of-le-of-lt, mul-pos, mul-le-mul-left, mul-le-mul-right, le-of-mul-le-mul-right, div-lt-iff-lt-mul}
 use native.Mathlib.Omega.{arith}
 use mathlib.Core.Bool.{Bool, true, false, cond, _&&_, true≢false}
 use lib.IntN.{ℤ}
 use lib.Dec.{ltb, lit≤, lit<}
 use lib.Pow.{pow-pos, pow-mono}
-use lib.Ieee.{Float, nan, inf, fin, Format, binary64, up, down, size, round, neg, add, sub, sum, mul}
+use lib.Ieee.{Float, nan, inf, fin, binary64, up, down, size, round, neg, add, sub, sum}
 use lib.Ieee.Fits.{down-pos}
 use lib.Ieee.Digits.{size-le}
 use lib.Ieee.Exact.{HasValue}
 use lib.Ieee.Order.{drop}
-use lib.Ieee.Scale.{round-same, grid}
+use lib.Ieee.Scale.{grid}
 use Rattle.laws.specs.laws.Rounding.{Near, grid-half, round-value}
 
 -- 1 in units of the smallest value
@@ -76,19 +76,7 @@ small-round s a c C h =
         let z : g * c ≤ 4 * u * c = omega arith in
         le-of-mul-le-mul-right z C
 
--- ---- the fraction that a product rounds, and the one that a difference rounds
-pub mul-is : (f : Format) (x y : Float) (a c b d : ℕ) → 0 < c → 0 < d → HasValue x false a c → HasValue y false b d → mul f x y ≡ round f false (a * b) (c * d)
-unfolding mul
-mul-is f nan y a c b d C D h k = absurd h
-mul-is f (inf u) y a c b d C D h k = absurd h
-mul-is f (fin true m e) y a c b d C D h k = absurd (true≢false (h .0))
-mul-is f (fin false m e) nan a c b d C D h k = absurd k
-mul-is f (fin false m e) (inf v) a c b d C D h k = absurd k
-mul-is f (fin false m e) (fin true n g) a c b d C D h k = absurd (true≢false (k .0))
-mul-is f (fin false m e) (fin false n g) a c b d C D h k =
-    round-same f false (m * up e * (n * up g)) (down e * down g) (a * b) (c * d) (mul-pos (down-pos e) (down-pos g)) (mul-pos C D)
-    (mul-mul-mul-comm (m * up e) (n * up g) c d ∙ ap₂ (λ (x y : ℕ). x * y) (h .1) (k .1) ∙ mul-mul-mul-comm a (down e) b (down g))
-
+-- ---- the fraction that a difference rounds
 -- x is what a / c rounds to, and a / c is at most 5 / 2
 pub record Left (x : Float) : Type 0 where
   pub s : Bool

@@ -1,7 +1,7 @@
 -- Down the tests of `byDomain` (Decided.antt), one for each return.
 use borrow.Author.Needs.{needs}
 use lib.Ieee.{nanBits}
-use Rattle.legendre.specs.Decided.{at-nan, over, at-one, at-minus-infinity, where-negative, below-one}
+use Rattle.legendre.specs.laws.Decided.{at-nan, over, at-one, at-minus-infinity, where-negative, below-one}
 use Rattle.legendre.specs.Ellipe.{ellipeOf, ellipeWithin}
 use Rattle.legendre.proofs.ellipe.Statement.{statement}
 use Rattle.legendre.proofs.ellipe.Tie as tie

@@ -1,7 +1,7 @@
 -- The test of the piece decides (`on-piece` and `by-mean` of Decided.antt).
 use borrow.Author.Needs.{needs}
-use Rattle.legendre.specs.Piece.{ePieceOf}
-use Rattle.legendre.specs.Decided.{on-piece, by-mean}
+use Rattle.pieces.specs.Piece.{ePieceOf}
+use Rattle.legendre.specs.laws.Decided.{on-piece, by-mean}
 use Rattle.legendre.specs.Ellipe.{eMeanOf, eBelowOneOf}
 use Rattle.legendre.proofs.e.e_below_one.Statement.{statement}
 use Rattle.legendre.proofs.e.e_below_one.Tie as tie

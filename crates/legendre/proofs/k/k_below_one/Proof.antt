@@ -1,7 +1,7 @@
 -- The test of the piece decides (`on-piece` and `by-mean` of Decided.antt).
 use borrow.Author.Needs.{needs}
-use Rattle.legendre.specs.Piece.{kPieceOf}
-use Rattle.legendre.specs.Decided.{on-piece, by-mean}
+use Rattle.pieces.specs.Piece.{kPieceOf}
+use Rattle.legendre.specs.laws.Decided.{on-piece, by-mean}
 use Rattle.legendre.specs.Ellipk.{kMeanOf, kBelowOneOf}
 use Rattle.legendre.proofs.k.k_below_one.Statement.{statement}
 use Rattle.legendre.proofs.k.k_below_one.Tie as tie

@@ -1,7 +1,7 @@
 -- The test of the piece decides (`on-piece` and `by-mean` of Decided.antt).
 use mathlib.Core.Path.{refl}
 use borrow.Author.Needs.{needs}
-use Rattle.legendre.specs.Decided.{on-piece, by-mean}
+use Rattle.legendre.specs.laws.Decided.{on-piece, by-mean}
 use Rattle.legendre.specs.Ellipke.{bothPieceOf, bothMeanOf, bothBelowOneOf}
 use Rattle.legendre.proofs.ke.both_below_one.Statement.{statement}
 use Rattle.legendre.proofs.ke.both_below_one.Tie as tie

@@ -1,0 +1,4 @@
+-- What is proved of the loop, whatever the recipe.
+pub mod Duplication
+pub mod Counts
+pub mod Unmet

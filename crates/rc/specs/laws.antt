@@ -1,0 +1,3 @@
+-- What is proved of the definition.
+pub mod Counts
+pub mod Unmet

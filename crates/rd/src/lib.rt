@@ -1,0 +1,101 @@
+// Carlson's RD(x, y, z), in which z counts three times, by duplication (01, module 5; DLMF 19.36(i); Carlson 1995).
+// A round takes L = √x√y + √y√z + √z√x, adds scale / (√z (z + L)) to the sum, makes each argument and their mean (itself + L) / 4 and quarters the scale.
+// The invariant is the value of RD at the start: scale · RD(x, y, z) + 3 · sum (DLMF 19.26.20).
+// The distance between the mean and the farthest argument is quartered; once it is below mean / 1024 the series that RJ shares closes.
+use carlson::Outcome;
+use carlson::fifth;
+use carlson::larger;
+ghost use mathlib.Core.Path.{_≡_};
+ghost use Rattle.rd.specs.Rd.{startOf, stopsOf, roundOf, closedOf, rdOf};
+
+// `scale` is 4^-k after k rounds, `sum` what the rounds have added.
+pub(crate) struct State {
+    pub x: f64,
+    pub y: f64,
+    pub z: f64,
+    pub mean: f64,
+    pub distance: f64,
+    pub scale: f64,
+    pub sum: f64,
+}
+
+impl State {
+    fn start(x: f64, y: f64, z: f64) -> State
+        ensures { λ r. ⌜ r ≡ startOf x y z ⌝ }
+    {
+        let mean = (x + y + 3.0 * z) / 5.0;
+        let dx = whole::magnitude(mean - x);
+        let dy = whole::magnitude(mean - y);
+        let dz = whole::magnitude(mean - z);
+        let near = larger(dx, dy);
+        State {
+            x,
+            y,
+            z,
+            mean,
+            distance: larger(near, dz),
+            scale: 1.0,
+            sum: 0.0,
+        }
+    }
+
+    fn stops(self) -> bool
+        ensures { λ r. ⌜ r ≡ stopsOf self ⌝ }
+    {
+        self.distance < self.mean / 1024.0
+    }
+
+    fn round(self) -> State
+        ensures { λ r. ⌜ r ≡ roundOf self ⌝ }
+    {
+        let rx = root::root(self.x);
+        let ry = root::root(self.y);
+        let rz = root::root(self.z);
+        let l = rx * ry + ry * rz + rz * rx;
+        State {
+            x: (self.x + l) / 4.0,
+            y: (self.y + l) / 4.0,
+            z: (self.z + l) / 4.0,
+            mean: (self.mean + l) / 4.0,
+            distance: self.distance / 4.0,
+            scale: self.scale / 4.0,
+            sum: self.sum + self.scale / (rz * (self.z + l)),
+        }
+    }
+
+    fn closed(self, rounds: usize) -> Outcome
+        ensures { λ r. ⌜ r ≡ closedOf self rounds ⌝ }
+    {
+        let x = (self.mean - self.x) / self.mean;
+        let y = (self.mean - self.y) / self.mean;
+        let z = -(x + y) / 3.0;
+        let xy = x * y;
+        let zz = z * z;
+        let series = fifth(
+            xy - 6.0 * zz,
+            (3.0 * xy - 8.0 * zz) * z,
+            3.0 * (xy - zz) * zz,
+            xy * zz * z,
+        );
+        let tail = self.scale * series / (self.mean * root::root(self.mean));
+        Outcome {
+            value: tail + 3.0 * self.sum,
+            met: self.stops(),
+            rounds,
+            inside: 0,
+        }
+    }
+}
+
+pub fn rd(x: f64, y: f64, z: f64) -> Outcome
+    ensures { λ r. ⌜ r ≡ rdOf x y z ⌝ }
+{
+    let mut s = State::start(x, y, z);
+    for k in 0..64usize {
+        if s.stops() {
+            return s.closed(k);
+        }
+        s = s.round();
+    }
+    s.closed(64)
+}

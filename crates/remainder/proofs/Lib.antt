@@ -1,0 +1,3 @@
+-- Arguments that the functions' proofs cite.
+pub mod Digits
+pub mod Values

@@ -1,0 +1,3 @@
+-- Laws about the definitions.
+pub mod Remainder
+pub mod Corners

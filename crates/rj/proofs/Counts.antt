@@ -1,0 +1,28 @@
+-- The count of the inner rounds fits its integer. Assumes nothing.
+use mathlib.Core.Path.{_≡_, sym, subst}
+use Prim.Native.Nat.{ℕ, _≤_, _<_, _+_, _*_}
+use native.Mathlib.Omega.{arith}
+use lib.Ieee.{Float}
+use Rattle.carlson.specs.declared.Outcome.{Outcome}
+use Rattle.rc.specs.Rc.{rcOf}
+use Rattle.rc.specs.laws.Counts.{few}
+use Rattle.rj.specs.Rj.{startOf, roundOf}
+use Rattle.rj.specs.declared.State.{State}
+
+pub few-of : (x y : Float) (c : Outcome) → c ≡ rcOf x y → c .rounds ≤ 64
+few-of x y c e = subst (λ (u : Outcome). u .rounds ≤ 64) (sym e) (few x y)
+
+-- the inner rounds of k rounds are at most 64 k
+pub first : (x y z p : Float) (s : State) → s ≡ startOf x y z p → s .inside ≤ 64 * 0
+unfolding startOf
+first x y z p s e = subst (λ (u : State). u .inside ≤ 64 * 0) (sym e) (omega arith)
+
+pub grows : (s t : State) (k : ℕ) → s .inside ≤ 64 * k → t ≡ roundOf s → t .inside ≤ 64 * (k + 1)
+unfolding roundOf
+grows s t k h e = subst (λ (u : State). u .inside ≤ 64 * (k + 1)) (sym e) (adds _ _ _ h (few _ _))
+  where
+    adds : (a b k : ℕ) → a ≤ 64 * k → b ≤ 64 → a + b ≤ 64 * (k + 1)
+    adds a b k h f = omega arith
+
+pub room : (a k : ℕ) → a ≤ 64 * k → k < 64 → a ≤ 4032
+room a k h below = omega arith

@@ -1,0 +1,2 @@
+-- How many inner rounds there can be.
+mod Counts

@@ -1,0 +1,12 @@
+-- The body is the definition.
+use mathlib.Core.Path.{refl}
+use Rattle.rj.specs.Rj.{stopsOf}
+use Rattle.rj.proofs.State.stops.Statement.{statement}
+use Rattle.rj.proofs.State.stops.Tie as tie
+
+returns : tie.Need-returns
+unfolding stopsOf
+returns c = refl
+
+pub stops-spec : {M : Type 1} → statement M
+stops-spec = tie.close (tie.spec returns)

@@ -1,0 +1,3 @@
+-- What the contract cites; then what is proved of it.
+pub mod Rj
+pub mod laws

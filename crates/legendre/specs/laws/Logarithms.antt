@@ -44,7 +44,7 @@ at-size N p l =
     let W : w ≤ 1091 = places-le N 1091 p l in
     let x = part-le (N - 2 ^ w) (N + 2 ^ w) (less N (2 ^ w)) in
     let y = part-le (2 ^ w - N) (N + 2 ^ w) (more N (2 ^ w)) in
-    small-round _ (apart ((w - 1074) * third + partOf (N - 2 ^ w) (N + 2 ^ w)) ((1074 - w) * third + partOf (2 ^ w - N) (N + 2 ^ w))) (2 ^ 62) 1090 (pow-pos 62) (lit< tt)
+    small-round _ (distanceOf ((w - 1074) * third + partOf (N - 2 ^ w) (N + 2 ^ w)) ((1074 - w) * third + partOf (2 ^ w - N) (N + 2 ^ w))) (2 ^ 62) 1090 (pow-pos 62) (lit< tt)
     (le-trans (mul-le-mul-right (2 ^ 1074) (bound w (partOf (N - 2 ^ w) (N + 2 ^ w)) (partOf (2 ^ w - N) (N + 2 ^ w)) W x y)) (lit≤ tt))
   where
     less : (n k : ℕ) → n - k ≤ n + k
@@ -59,10 +59,10 @@ at-size N p l =
     below : (w : ℕ) → 1074 - w ≤ 1074
     below w = omega arith
 
-    apart-le : (A B x y a b c : ℕ) → A ≤ a → B ≤ b → x ≤ c → y ≤ c → apart (A + x) (B + y) ≤ a + b + (c + c)
+    apart-le : (A B x y a b c : ℕ) → A ≤ a → B ≤ b → x ≤ c → y ≤ c → distanceOf (A + x) (B + y) ≤ a + b + (c + c)
     apart-le A B x y a b c h k i j = omega arith
 
-    bound : (w x y : ℕ) → w ≤ 1091 → x ≤ 21 * 2 ^ 63 → y ≤ 21 * 2 ^ 63 → apart ((w - 1074) * third + x) ((1074 - w) * third + y) ≤ 2 ^ 78
+    bound : (w x y : ℕ) → w ≤ 1091 → x ≤ 21 * 2 ^ 63 → y ≤ 21 * 2 ^ 63 → distanceOf ((w - 1074) * third + x) ((1074 - w) * third + y) ≤ 2 ^ 78
     bound w x y W X Y =
         le-trans
         (apart-le ((w - 1074) * third) ((1074 - w) * third) x y (17 * third) (1074 * third) (21 * 2 ^ 63) (mul-le-mul-right third (above w W)) (mul-le-mul-right third (below w)) X Y)

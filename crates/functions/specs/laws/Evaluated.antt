@@ -1,7 +1,8 @@
 -- What the sheet needs of every function, by one law over the function number. Assumes nothing.
 use mathlib.Core.Path.{_≡_, refl, sym, subst}
 use mathlib.Core.Bool.{Bool, true, false, not, cond}
-use Prim.Native.Nat.{ℕ, _≤_, _<_}
+use Prim.Native.Nat.{ℕ, suc, _≤_, _<_, zero-le}
+use native.Mathlib.Nat.{not-le-of-lt}
 use native.Mathlib.Omega.{arith}
 use borrow.Author.Tests.{ne-eqb, eqb-false}
 use lib.Dec.{T, leb, eqb, leb→le, nleb→lt, lit≤}
@@ -32,10 +33,16 @@ value-fits (Pair x y) s = s .0 .fit
 value-fits (Infinite t) s = tt
 value-fits (Refused n) s = tt
 
--- down the numbers: what each function answers, and what is left where it is none of those before
-rung : (t : Bool) (a b : Answer) → Sound a → (t ≡ false → Sound b) → Sound (cond t a b)
-rung true a b p q = p
-rung false a b p q = q refl
+-- down the numbers: what the function of number k answers, and what is left above it
+rung : (f k : ℕ) (a b : Answer) → k ≤ f → Sound a → (suc k ≤ f → Sound b) → Sound (cond (eqb f k) a b)
+rung f k a b l p q = go (eqb f k) refl
+  where
+    above : (f ≡ k → ⊥) → suc k ≤ f
+    above n = omega arith
+
+    go : (t : Bool) → eqb f k ≡ t → Sound (cond t a b)
+    go true e = p
+    go false e = q (above (eqb-false f k e))
 
 -- every function's answer is sound
 pub evaluated-sound : (f a b c : ℕ) → f ≤ last → Sound (evaluateOf f a b c)
@@ -44,17 +51,14 @@ evaluated-sound f a b c h =
     let x = float a in
     let y = float b in
     let fit = ofBits-fits binary64 in
-    rung (eqb f 0) _ _ zero-sound (λ n0.
-    rung (eqb f 1) _ _ (ellipk-answers .sound x (fit a)) (λ n1.
-    rung (eqb f 2) _ _ (ellipe-answers .sound x (fit a)) (λ n2.
-    rung (eqb f 3) _ _ (ellipke-answers .sound x (fit a)) (λ n3.
-    rung (eqb f 4) _ _ (fair-sound (ellippi-may (y =· 1·0)) _ tt (ellippi-fair x y (value-fits _ (ellipk-answers .sound y (fit b))))) (λ n4.
-    rung (eqb f 5) _ _ (fair-sound ellipeinc-may _ tt (ellipeinc-fair x y (fit a))) (λ n5.
-    rung (eqb f 6) _ _ (fair-sound ellipf-may _ tt (ellipf-fair x y (fit a))) (λ n6.
-    absurd (none f h (eqb-false f 0 n0) (eqb-false f 1 n1) (eqb-false f 2 n2) (eqb-false f 3 n3) (eqb-false f 4 n4) (eqb-false f 5 n5) (eqb-false f 6 n6)))))))))
-  where
-    none : (f : ℕ) → f ≤ last → (f ≡ 0 → ⊥) → (f ≡ 1 → ⊥) → (f ≡ 2 → ⊥) → (f ≡ 3 → ⊥) → (f ≡ 4 → ⊥) → (f ≡ 5 → ⊥) → (f ≡ 6 → ⊥) → ⊥
-    none f h n0 n1 n2 n3 n4 n5 n6 = omega (arith, h, n0, n1, n2, n3, n4, n5, n6)
+    rung f 0 _ _ zero-le zero-sound (λ l1.
+    rung f 1 _ _ l1 (ellipk-answers .sound x (fit a)) (λ l2.
+    rung f 2 _ _ l2 (ellipe-answers .sound x (fit a)) (λ l3.
+    rung f 3 _ _ l3 (ellipke-answers .sound x (fit a)) (λ l4.
+    rung f 4 _ _ l4 (fair-sound (ellippi-may (y =· 1·0)) _ tt (ellippi-fair x y (value-fits _ (ellipk-answers .sound y (fit b))))) (λ l5.
+    rung f 5 _ _ l5 (fair-sound ellipeinc-may _ tt (ellipeinc-fair x y (fit a))) (λ l6.
+    rung f 6 _ _ l6 (fair-sound ellipf-may _ tt (ellipf-fair x y (fit a))) (λ l7.
+    absurd (not-le-of-lt l7 h))))))))
 
 -- and a number above the last has none
 pub beyond : (f a b c : ℕ) → last < f → evaluateOf f a b c ≡ Refused 9

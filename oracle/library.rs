@@ -10,6 +10,7 @@ mod raw {
         pub safe fn sm_round(x: u64) -> u64;
         pub safe fn sm_root(x: u64) -> u64;
         pub safe fn sm_fused(x: u64, y: u64, z: u64) -> u64;
+        pub safe fn sm_remainder(x: u64, y: u64) -> u64;
         pub safe fn sm_sine(x: u64) -> u64;
         pub safe fn sm_cosine(x: u64) -> u64;
         pub safe fn sm_logarithm(x: u64) -> u64;
@@ -48,6 +49,14 @@ pub fn logarithm(x: f64) -> f64 {
 
 pub fn fused([x, y, z]: [u64; 3]) -> u64 {
     raw::sm_fused(x, y, z)
+}
+
+pub fn remainder([x, y]: [u64; 2]) -> u64 {
+    raw::sm_remainder(x, y)
+}
+
+pub fn remainder_of(x: f64, y: f64) -> f64 {
+    f64::from_bits(raw::sm_remainder(x.to_bits(), y.to_bits()))
 }
 
 /// Refusal number, first and second answer's patterns.

@@ -67,6 +67,9 @@ uint64_t sm_round(uint64_t x);
 uint64_t sm_root(uint64_t x);
 uint64_t sm_fused(uint64_t x, uint64_t y, uint64_t z);
 
+/* What is left of x when |y| is taken away as often as it fits, with x's sign: C's fmod, exact. NaN where x is infinite, y zero or either NaN. */
+uint64_t sm_remainder(uint64_t x, uint64_t y);
+
 /* Sine and cosine of |x| <= 4, and the natural logarithm of finite x > 0, within |x| 2^-52, 2^-52 and (|k| + 1) 2^-53 of the exact sums (x = 2^k f,
    3/4 <= f < 3/2; docs/PROVED.md). NaN for all other x. */
 uint64_t sm_sine(uint64_t x);

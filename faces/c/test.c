@@ -84,6 +84,8 @@ static void functions(void)
     CHECK(sm_root(1) == 0x1e60000000000000);
     CHECK(sm_root(sm_pattern(-1.0)) == NOT_A_NUMBER);
     CHECK(sm_fused(ONE + 1, sm_pattern(0.9999999999999998), sm_pattern(-1.0)) == 0xb970000000000000);
+    CHECK(sm_value(sm_remainder(sm_pattern(-7.5), sm_pattern(2.0))) == -1.5 && sm_remainder(sm_pattern(-4.0), sm_pattern(2.0)) == sm_pattern(-0.0));
+    CHECK(sm_remainder(ONE, PLUS) == ONE && sm_remainder(PLUS, ONE) == NOT_A_NUMBER && sm_remainder(ONE, 0) == NOT_A_NUMBER);
     CHECK(sm_sine(sm_pattern(-0.0)) == sm_pattern(-0.0) && sm_cosine(0) == ONE && sm_logarithm(ONE) == 0);
     CHECK(sm_sine(sm_pattern(4.5)) == NOT_A_NUMBER && sm_cosine(PLUS) == NOT_A_NUMBER && sm_logarithm(0) == NOT_A_NUMBER);
     CHECK(sm_value(sm_round(sm_pattern(-2.5))) == -3.0 && sm_value(sm_round(sm_pattern(2.5))) == 3.0);

@@ -1,6 +1,6 @@
 // The remainder, digit by digit: shifts and subtractions, and no branch on a digit.
 ghost use mathlib.Core.Path.{_≡_};
-ghost use Prim.Native.Nat.{_+_, _*_, _%_, _^_, _<_, _≤_};
+ghost use Prim.Native.Nat.{_*_, _%_, _^_, _<_, _≤_};
 ghost use lib.Ieee.{binary64, round};
 ghost use Rattle.laws.specs.Arithmetic.{_%%_};
 ghost use Rattle.remainder.specs.Remainder.{remainderOf};

@@ -6,6 +6,7 @@ ghost use lib.ListN.{length, take, drop};
 ghost use Rattle.root.specs.Root.{rootOf};
 ghost use Rattle.fused.specs.Fused.{fusedOf};
 ghost use Rattle.whole.specs.Whole.{magnitudeOf, truncOf, floorOf, roundOf};
+ghost use Rattle.remainder.specs.Remainder.{remainderOf};
 ghost use Rattle.answer.specs.Answer.{valueOf};
 ghost use Rattle.angle.specs.Sine.{sineOf};
 ghost use Rattle.angle.specs.Cosine.{cosineOf};
@@ -57,6 +58,13 @@ pub extern "C" fn sm_fused(x: u64, y: u64, z: u64) -> u64
         bits::from_pattern(y),
         bits::from_pattern(z),
     ))
+}
+
+#[no_mangle]
+pub extern "C" fn sm_remainder(x: u64, y: u64) -> u64
+    ensures { λ r. ⌜ r ≡ toBits binary64 (remainderOf (ofBits binary64 x) (ofBits binary64 y)) ⌝ }
+{
+    bits::to_pattern(remainder::remainder(bits::from_pattern(x), bits::from_pattern(y)))
 }
 
 // The kernel: a refused argument has NaN for its value.

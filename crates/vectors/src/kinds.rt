@@ -48,6 +48,9 @@ fn more_kinds(name: &[u8]) -> u8 {
     if check::same(name, b"logarithm") {
         return 13;
     }
+    if check::same(name, b"remainder") {
+        return 14;
+    }
     0
 }
 
@@ -63,6 +66,9 @@ pub(crate) fn words(kind: u8) -> usize
     }
     if kind == 7 {
         return 6;
+    }
+    if kind == 14 {
+        return 3;
     }
     if kind > 10 {
         return 4;
@@ -141,6 +147,14 @@ fn agrees_fused(s: &[u8]) -> bool {
     (x.good & y.good & z.good & w.good) & (bits::to_pattern(r) == w.value)
 }
 
+fn agrees_remainder(s: &[u8]) -> bool {
+    let x = word(s, 0);
+    let y = word(s, 17);
+    let z = word(s, 34);
+    let r = remainder::remainder(bits::from_pattern(x.value), bits::from_pattern(y.value));
+    (x.good & y.good & z.good) & (bits::to_pattern(r) == z.value)
+}
+
 // K and E: the first word is function and refusal; bit for bit, refusals too.
 fn agrees_complete(s: &[u8]) -> bool {
     let head = word(s, 0);
@@ -216,6 +230,9 @@ pub(crate) fn agrees(kind: u8, s: &[u8]) -> Shown {
     }
     if kind == 7 {
         return exact(agrees_complete(s));
+    }
+    if kind == 14 {
+        return exact(agrees_remainder(s));
     }
     if kind > 10 {
         return agrees_bounded(kind, s);

@@ -145,6 +145,7 @@ fn the_float_floor() {
         assert_eq!(lent::single("round", a), one_nan(x.round()));
         assert_eq!(lent::single("root", a), one_nan(x.sqrt()));
         assert_eq!(lent::fused(a, b, c), one_nan(x.mul_add(y, z)));
+        assert_eq!(lent::remainder(a, b), one_nan(x % y));
     }
 }
 

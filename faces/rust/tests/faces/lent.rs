@@ -11,6 +11,7 @@ mod c {
         pub fn sm_round(x: u64) -> u64;
         pub fn sm_root(x: u64) -> u64;
         pub fn sm_fused(x: u64, y: u64, z: u64) -> u64;
+        pub fn sm_remainder(x: u64, y: u64) -> u64;
         pub fn sm_evaluate(function: u8, a: u64, b: u64, c: u64, out: *mut u64, len: usize) -> u8;
         pub fn sm_blank(sheet: *mut u8, len: usize, rows: u32) -> u8;
         pub fn sm_edit(sheet: *mut u8, len: usize, row: u32, function: u8, a: u64, b: u64, c: u64) -> u8;
@@ -41,6 +42,10 @@ pub fn single(name: &str, x: u64) -> u64 {
 
 pub fn fused(x: u64, y: u64, z: u64) -> u64 {
     unsafe { c::sm_fused(x, y, z) }
+}
+
+pub fn remainder(x: u64, y: u64) -> u64 {
+    unsafe { c::sm_remainder(x, y) }
 }
 
 pub fn evaluate(function: u8, [a, b, c]: [u64; 3], out: &mut [u64]) -> u8 {

@@ -5,17 +5,21 @@ The arc from the equator to a place is b·E(β, -e'²), β being the place's par
 e' is the second eccentricity). E is odd in β, so a leg from φ1 to φ2 is two rows, E(β2) and E(-β1), and the sheet's exact total
 is the length of all legs together in units of b.
 
-  meridian.py lines  < legs.txt   the program's input
-  meridian.py metres < output     legs and total in metres, from the program's output; legs.txt is read for the names
-  meridian.py check  < output     the same, held to a second method: mpmath's quadrature of a(1-e²)/(1-e²·sin²φ)^(3/2) dφ
+  meridian.py lines LEGS             the program's input
+  meridian.py metres LEGS < output   legs and total in metres, from the program's output for these legs
+  meridian.py check LEGS < output    the same, held to a second method: mpmath's quadrature of a(1-e²)/(1-e²·sin²φ)^(3/2) dφ
 
-So:  examples/meridian.py lines < examples/legs.txt | examples/legsheet | examples/meridian.py metres
+LEGS is a file of legs: a line has two latitudes in degrees, north positive, and a name; lines that begin with # are passed over. So:
+
+  examples/meridian.py lines examples/legs.txt | examples/legsheet | examples/meridian.py metres examples/legs.txt
+
+The exit status is 0 only if all of it went well.
 """
-import math, os, struct, sys
+import math, struct, sys
 
 A, B = 6378137.0, 6356752.314245179  # WGS84's half axes in metres
 M = -0.006739496742276434            # -e'² = 1 - (a/b)²
-LEGS = os.path.join(os.path.dirname(os.path.abspath(__file__)), 'legs.txt')
+MOST = 512                           # legs in a sheet: two rows each
 
 def pattern(x):
     return '%016x' % struct.unpack('<Q', struct.pack('<d', x))[0]
@@ -29,11 +33,24 @@ def parametric(latitude):
         return math.copysign(math.pi / 2, latitude)
     return math.atan(B / A * math.tan(math.radians(latitude)))
 
-def legs(lines):
-    for line in lines:
-        if line.strip() and not line.startswith('#'):
-            start, end, name = line.split(None, 2)
-            yield float(start), float(end), name.strip()
+def legs(name):
+    """The legs of a file: start, end and name of each."""
+    found = []
+    with open(name) as lines:
+        for number, line in enumerate(lines, 1):
+            if not line.strip() or line.startswith('#'):
+                continue
+            try:
+                start, end, leg = line.split(None, 2)
+                start, end = float(start), float(end)
+            except ValueError:
+                sys.exit('%s, line %d: two latitudes in degrees and a name are wanted' % (name, number))
+            if not (abs(start) <= 90 and abs(end) <= 90):
+                sys.exit('%s, line %d: a latitude lies between -90 and 90' % (name, number))
+            found.append((start, end, leg.strip()))
+    if len(found) > MOST:
+        sys.exit('%s has %d legs and a sheet holds %d; split the file' % (name, len(found), MOST))
+    return found
 
 def write_lines(given):
     print(2 * len(given))
@@ -44,8 +61,10 @@ def write_lines(given):
 def read_output(text, given):
     """Each leg's length and their total, in metres."""
     lines = text.split('\n')
-    if len(lines) != 2 * len(given) + 3 or not lines[-2].startswith('total '):
-        sys.exit('this is not the output for these legs: ' + lines[0])
+    if not lines[-2:-1] or not lines[-2].startswith('total '):
+        sys.exit('legsheet printed no sheet: ' + (lines[0] or 'nothing at all'))
+    if len(lines) != 2 * len(given) + 3:
+        sys.exit('this output has %d rows, and the file has %d legs, of two rows each' % (len(lines) - 3, len(given)))
     rows = [line.split() for line in lines[:2 * len(given)]]
     for row in rows:
         if row[2] != '0':
@@ -62,12 +81,11 @@ def quadrature(start, end):
     return mp.quad(lambda x: a * (1 - e2) / (1 - e2 * mp.sin(x) ** 2) ** mp.mpf('1.5'), mp.linspace(ends[0], ends[1], 9))
 
 def main():
-    what = sys.argv[1] if len(sys.argv) == 2 else ''
-    if what == 'lines':
-        return write_lines(list(legs(sys.stdin)))
-    if what not in ('metres', 'check'):
+    if len(sys.argv) != 3 or sys.argv[1] not in ('lines', 'metres', 'check'):
         sys.exit(__doc__)
-    given = list(legs(open(LEGS)))
+    what, given = sys.argv[1], legs(sys.argv[2])
+    if what == 'lines':
+        return write_lines(given)
     lengths, total = read_output(sys.stdin.read(), given)
     worst = 0
     for (start, end, name), metres in zip(given, lengths):

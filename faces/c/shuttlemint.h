@@ -5,17 +5,23 @@
        cc -Ifaces/c program.c target/staticlib/libshuttlemint.a -lm
 
    What holds of every call
-   - It answers for all values of its arguments and for any bytes. There is nothing that a caller must make sure of but the next two points.
+   - It answers for all values of its arguments and for any bytes. There is nothing that a caller must make sure of but the next three points.
    - A slice is passed as a pointer and a length, the length in elements. The caller owns the elements. For the length of the call that many of them
      can be read (and written, where the pointer is not const) and nobody else writes them. The length is looked at first: NULL with length 0 is safe, and is
      refused as any other length is that does not fit. Bytes need no alignment; `out` of sm_evaluate is an ordinary array of uint64_t.
    - The processor's floating-point state is the one that a C program starts with: rounding to nearest, subnormals kept. Rounding set otherwise by fesetround,
      or gcc's -ffast-math or -Ofast given when linking, which turns subnormals into zeros, makes answers wrong.
+   - Floating-point traps are masked, as they are when a C program starts. The steps of a call raise the flags of invalid, division by zero, overflow,
+     underflow and inexact as IEEE 754 has it, and clear none; no answer depends on a flag. Where the host lets one of them trap (feenableexcept), a call
+     may end in SIGFPE. feholdexcept(&env) before it and fesetenv(&env) behind it mask the traps for its length, and the host's flags stay as they were.
    - It keeps no pointer and has no state: any threads may call at the same time, on sheets of their own or reading one together.
    - It takes no memory, calls nothing but memcpy, memset and fmod, and ends within bounded work.
 
-   A float goes over as its bit pattern, a uint64_t, so that a NaN can; sm_pattern and sm_value below go there and back. A NaN of any pattern is the same
-   argument. No answer of sm_evaluate is NaN; a NaN of the functions of one float is 7ff8000000000000.
+   Two offers stand below. The first takes and gives doubles. The second is the library's own calls: there a float goes over as its bit pattern, a uint64_t, as
+   it stands in a sheet. A double given to one of those does not compile; sm_pattern and sm_value go there and back. (A pattern given to the first offer does,
+   as any whole number: it has no use for patterns.)
+
+   A NaN of any pattern is the same argument. No answer of an integral is NaN; a NaN of the functions of one float is 7ff8000000000000.
 
    What is meant by each call is stated in crates/shuttlemint and docs/SHEET.md. */
 #ifndef SHUTTLEMINT_H
@@ -24,10 +30,6 @@
 #include <stddef.h>
 #include <stdint.h>
 #include <string.h>
-
-#ifdef __cplusplus
-extern "C" {
-#endif
 
 /* Refusals. 0 is none. */
 enum {
@@ -45,7 +47,7 @@ enum {
     SM_OUTSIDE_THE_KERNEL = 12  /* a logarithm, sine or cosine outside its range; no call below gives it */
 };
 
-/* Functions by number, with their arguments a, b and answers out[0], out[1]. Those not named are not read, and 0. */
+/* Functions by number, with their arguments a, b and answers. Those not named are not read, and 0. */
 enum {
     SM_BLANK = 0,     /* no function: a blank row */
     SM_ELLIPK = 1,    /* a = m; K(m) */
@@ -56,6 +58,67 @@ enum {
     SM_ELLIPF = 6,    /* a = phi, b = m; F(phi, m) */
     SM_LAST_FUNCTION = SM_ELLIPF
 };
+
+/* A sheet of r rows, 0 <= r <= 1,024, has exactly SM_SHEET_BYTES(r) bytes; numbers in it are little-endian:
+
+       32 bytes      contents: uint32_t 1, 32, 48 r, r, 2, 32 + 48 r, 296, 1
+       48 bytes r times, a row: 1 byte function, 1 byte refusal, 6 zeros, 3 uint64_t arguments, 2 uint64_t answers
+       296 bytes     totals: uint32_t counts of the rows that are blank, finite, +infinite, -infinite, refused; 4 zeros; 272 bytes, the exact total
+
+   A refused call changes no byte. */
+#define SM_MOST_ROWS 1024u
+#define SM_ROW_BYTES 48u
+#define SM_SHEET_BYTES(rows) (328u + 48u * (size_t)(rows))
+
+/* Places in a row, and the place of the counts in a sheet of so many bytes. */
+#define SM_ROW_FUNCTION 0u
+#define SM_ROW_REFUSAL 1u
+#define SM_ROW_ARGUMENTS 8u
+#define SM_ROW_ANSWERS 32u
+#define SM_COUNTS(sheet_length) ((sheet_length) - 296u)
+
+/* ---- The first offer: doubles. Each is an inline function over the library's own calls. */
+
+/* Works out the integral. Gives 0 and writes the answers; or gives its refusal, 1 to 6, and writes zeros. No answer is NaN; it can be infinite. */
+static inline uint8_t sm_ellipk(double m, double *k);
+static inline uint8_t sm_ellipe(double m, double *e);
+static inline uint8_t sm_ellipke(double m, double *k, double *e);
+static inline uint8_t sm_ellippi(double n, double m, double *pi);
+static inline uint8_t sm_ellipeinc(double phi, double m, double *e);
+static inline uint8_t sm_ellipf(double phi, double m, double *f);
+
+/* Works out the integral and puts it in the row, in place of what stands there; the counts and the total follow. Gives 0; or 7, 8 or 10, tried in this
+   order. A refusal of the integral itself, 1 to 6, is no refusal of the call: the row keeps it, with zeros for answers, and the call gives 0. sm_clear makes
+   the row blank. sm_blank, below, makes a sheet. */
+static inline uint8_t sm_enter_ellipk(uint8_t *sheet, size_t sheet_length, uint32_t row, double m);
+static inline uint8_t sm_enter_ellipe(uint8_t *sheet, size_t sheet_length, uint32_t row, double m);
+static inline uint8_t sm_enter_ellipke(uint8_t *sheet, size_t sheet_length, uint32_t row, double m);
+static inline uint8_t sm_enter_ellippi(uint8_t *sheet, size_t sheet_length, uint32_t row, double n, double m);
+static inline uint8_t sm_enter_ellipeinc(uint8_t *sheet, size_t sheet_length, uint32_t row, double phi, double m);
+static inline uint8_t sm_enter_ellipf(uint8_t *sheet, size_t sheet_length, uint32_t row, double phi, double m);
+static inline uint8_t sm_clear(uint8_t *sheet, size_t sheet_length, uint32_t row);
+
+/* A row as it stands in the sheet. */
+typedef struct {
+    uint8_t function, refusal;
+    double arguments[3], answers[2];
+} sm_row;
+
+/* Reads a row. Gives 0; or 7, then 8, and writes zeros. */
+static inline uint8_t sm_read(const uint8_t *sheet, size_t sheet_length, uint32_t row, sm_row *read);
+
+/* The exact total of the finite rows' first answers, rounded once; +0 where the bytes are no sheet (sm_total_refusal, below, tells). */
+static inline double sm_sum(const uint8_t *sheet, size_t sheet_length);
+
+/* A double's bit pattern, and back. */
+static inline uint64_t sm_pattern(double value);
+static inline double sm_value(uint64_t pattern);
+
+/* ---- The second offer: the library's own calls. */
+
+#ifdef __cplusplus
+extern "C" {
+#endif
 
 /* |x|; x without its fraction; the whole number at or below x; the nearest whole number, halves away from zero. */
 uint64_t sm_magnitude(uint64_t x);
@@ -80,24 +143,6 @@ uint64_t sm_logarithm(uint64_t x);
    or, where out_length is not 2, gives 7 and writes nothing. Function 0 has two zeros for its answers. */
 uint8_t sm_evaluate(uint8_t function, uint64_t a, uint64_t b, uint64_t c, uint64_t *out, size_t out_length);
 
-/* A sheet of r rows, 0 <= r <= 1,024, has exactly SM_SHEET_BYTES(r) bytes; numbers in it are little-endian:
-
-       32 bytes      contents: uint32_t 1, 32, 48 r, r, 2, 32 + 48 r, 296, 1
-       48 bytes r times, a row: 1 byte function, 1 byte refusal, 6 zeros, 3 uint64_t arguments, 2 uint64_t answers
-       296 bytes     totals: uint32_t counts of the rows that are blank, finite, +infinite, -infinite, refused; 4 zeros; 272 bytes, the exact total
-
-   A refused call changes no byte. */
-#define SM_MOST_ROWS 1024u
-#define SM_ROW_BYTES 48u
-#define SM_SHEET_BYTES(rows) (328u + 48u * (size_t)(rows))
-
-/* Places in a row, and the place of the counts in a sheet of so many bytes. */
-#define SM_ROW_FUNCTION 0u
-#define SM_ROW_REFUSAL 1u
-#define SM_ROW_ARGUMENTS 8u
-#define SM_ROW_ANSWERS 32u
-#define SM_COUNTS(sheet_length) ((sheet_length) - 296u)
-
 /* Makes the bytes, whatever they hold, a sheet of so many blank rows. Gives 0; 11 for more than 1,024 rows; then 7 where the length is not
    SM_SHEET_BYTES(rows). */
 uint8_t sm_blank(uint8_t *sheet, size_t sheet_length, uint32_t rows);
@@ -120,6 +165,25 @@ uint8_t sm_total_refusal(const uint8_t *sheet, size_t sheet_length);
 }
 #endif
 
+/* A double in place of a pattern would be turned into a whole number without a word. With SM_WHOLE around it, it does not compile: "invalid operands to
+   binary |" means that a pattern is missing. Give sm_pattern(x), or take the first offer's call. */
+#define SM_WHOLE(pattern) ((pattern) | (uint64_t)0)
+#define sm_magnitude(x) sm_magnitude(SM_WHOLE(x))
+#define sm_trunc(x) sm_trunc(SM_WHOLE(x))
+#define sm_floor(x) sm_floor(SM_WHOLE(x))
+#define sm_round(x) sm_round(SM_WHOLE(x))
+#define sm_root(x) sm_root(SM_WHOLE(x))
+#define sm_fused(x, y, z) sm_fused(SM_WHOLE(x), SM_WHOLE(y), SM_WHOLE(z))
+#define sm_sine(x) sm_sine(SM_WHOLE(x))
+#define sm_cosine(x) sm_cosine(SM_WHOLE(x))
+#define sm_logarithm(x) sm_logarithm(SM_WHOLE(x))
+#define sm_evaluate(function, a, b, c, out, out_length) sm_evaluate(function, SM_WHOLE(a), SM_WHOLE(b), SM_WHOLE(c), out, out_length)
+#define sm_edit(sheet, sheet_length, row, function, a, b, c) \
+    sm_edit(sheet, sheet_length, row, function, SM_WHOLE(a), SM_WHOLE(b), SM_WHOLE(c))
+#define sm_value(pattern) sm_value(SM_WHOLE(pattern))
+
+/* ---- How the first offer is made of the second. */
+
 static inline uint64_t sm_pattern(double value)
 {
     uint64_t pattern;
@@ -127,11 +191,103 @@ static inline uint64_t sm_pattern(double value)
     return pattern;
 }
 
-static inline double sm_value(uint64_t pattern)
+static inline double(sm_value)(uint64_t pattern)
 {
     double value;
     memcpy(&value, &pattern, sizeof value);
     return value;
+}
+
+/* A double in so many bytes of a sheet. */
+static inline double sm_double_at(const uint8_t *bytes)
+{
+    uint64_t pattern = 0;
+    for (int k = 8; k-- > 0;)
+        pattern = pattern << 8 | bytes[k];
+    return sm_value(pattern);
+}
+
+static inline uint8_t sm_both(uint8_t function, double a, double b, double *first, double *second)
+{
+    uint64_t out[2];
+    const uint8_t refusal = sm_evaluate(function, sm_pattern(a), sm_pattern(b), 0, out, 2);
+    *first = sm_value(out[0]);
+    *second = sm_value(out[1]);
+    return refusal;
+}
+
+static inline uint8_t sm_first(uint8_t function, double a, double b, double *first)
+{
+    double second;
+    return sm_both(function, a, b, first, &second);
+}
+
+static inline uint8_t sm_ellipk(double m, double *k) { return sm_first(SM_ELLIPK, m, 0, k); }
+static inline uint8_t sm_ellipe(double m, double *e) { return sm_first(SM_ELLIPE, m, 0, e); }
+static inline uint8_t sm_ellipke(double m, double *k, double *e) { return sm_both(SM_ELLIPKE, m, 0, k, e); }
+static inline uint8_t sm_ellippi(double n, double m, double *pi) { return sm_first(SM_ELLIPPI, n, m, pi); }
+static inline uint8_t sm_ellipeinc(double phi, double m, double *e) { return sm_first(SM_ELLIPEINC, phi, m, e); }
+static inline uint8_t sm_ellipf(double phi, double m, double *f) { return sm_first(SM_ELLIPF, phi, m, f); }
+
+static inline uint8_t sm_enter(uint8_t *sheet, size_t sheet_length, uint32_t row, uint8_t function, double a, double b)
+{
+    return sm_edit(sheet, sheet_length, row, function, sm_pattern(a), sm_pattern(b), 0);
+}
+
+static inline uint8_t sm_enter_ellipk(uint8_t *sheet, size_t sheet_length, uint32_t row, double m)
+{
+    return sm_enter(sheet, sheet_length, row, SM_ELLIPK, m, 0);
+}
+
+static inline uint8_t sm_enter_ellipe(uint8_t *sheet, size_t sheet_length, uint32_t row, double m)
+{
+    return sm_enter(sheet, sheet_length, row, SM_ELLIPE, m, 0);
+}
+
+static inline uint8_t sm_enter_ellipke(uint8_t *sheet, size_t sheet_length, uint32_t row, double m)
+{
+    return sm_enter(sheet, sheet_length, row, SM_ELLIPKE, m, 0);
+}
+
+static inline uint8_t sm_enter_ellippi(uint8_t *sheet, size_t sheet_length, uint32_t row, double n, double m)
+{
+    return sm_enter(sheet, sheet_length, row, SM_ELLIPPI, n, m);
+}
+
+static inline uint8_t sm_enter_ellipeinc(uint8_t *sheet, size_t sheet_length, uint32_t row, double phi, double m)
+{
+    return sm_enter(sheet, sheet_length, row, SM_ELLIPEINC, phi, m);
+}
+
+static inline uint8_t sm_enter_ellipf(uint8_t *sheet, size_t sheet_length, uint32_t row, double phi, double m)
+{
+    return sm_enter(sheet, sheet_length, row, SM_ELLIPF, phi, m);
+}
+
+static inline uint8_t sm_clear(uint8_t *sheet, size_t sheet_length, uint32_t row)
+{
+    return sm_edit(sheet, sheet_length, row, SM_BLANK, 0, 0, 0);
+}
+
+static inline uint8_t sm_read(const uint8_t *sheet, size_t sheet_length, uint32_t row, sm_row *read)
+{
+    const uint8_t refusal = sm_row_refusal(sheet, sheet_length, row);
+    memset(read, 0, sizeof *read);
+    if (refusal == 0) {
+        const uint8_t *bytes = sheet + sm_row_at(sheet, sheet_length, row);
+        read->function = bytes[SM_ROW_FUNCTION];
+        read->refusal = bytes[SM_ROW_REFUSAL];
+        for (size_t k = 0; k < 3; k++)
+            read->arguments[k] = sm_double_at(bytes + SM_ROW_ARGUMENTS + 8 * k);
+        for (size_t k = 0; k < 2; k++)
+            read->answers[k] = sm_double_at(bytes + SM_ROW_ANSWERS + 8 * k);
+    }
+    return refusal;
+}
+
+static inline double sm_sum(const uint8_t *sheet, size_t sheet_length)
+{
+    return sm_value(sm_total(sheet, sheet_length));
 }
 
 #endif

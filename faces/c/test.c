@@ -119,6 +119,49 @@ static void functions(void)
     CHECK(out[0] == 7 && out[1] == 7 && out[2] == 7);
 }
 
+/* The calls with doubles are those with patterns. */
+static void doubles(void)
+{
+    const double infinity = sm_value(PLUS), nan = sm_value(NOT_A_NUMBER);
+    double first = 7, second = 7;
+    CHECK(sm_ellipk(0.0, &first) == 0 && sm_pattern(first) == 0x3ff921fb54442d18);
+    CHECK(sm_ellipk(nan, &first) == SM_NAN_ARGUMENT && sm_pattern(first) == 0);
+    CHECK(sm_ellipe(1.0, &first) == 0 && first == 1.0);
+    CHECK(sm_ellipe(1.5, &first) == SM_PARAMETER_ABOVE_ONE && sm_pattern(first) == 0);
+    CHECK(sm_ellipke(1.0, &first, &second) == 0 && first == infinity && second == 1.0);
+    CHECK(sm_ellipke(2.0, &first, &second) == SM_PARAMETER_ABOVE_ONE && sm_pattern(first) == 0 && sm_pattern(second) == 0);
+    CHECK(sm_ellippi(2.0, 1.0, &first) == 0 && first == -infinity);
+    CHECK(sm_ellippi(1.0, 2.0, &first) == SM_PARAMETER_ABOVE_ONE && sm_ellippi(1.0, 0.5, &first) == SM_CHARACTERISTIC_ONE);
+    CHECK(sm_ellipeinc(-1.5, 0.0, &first) == 0 && first == -1.5);
+    CHECK(sm_ellipeinc(0.0, nan, &first) == 0 && sm_ellipeinc(nan, 0.0, &first) == SM_NAN_ARGUMENT);
+    CHECK(sm_ellipf(1.0, 0.0, &first) == 0 && first == 1.0);
+    CHECK(sm_ellipf(1.0, 2.0, &first) == SM_AMPLITUDE_TOO_LARGE && sm_pattern(first) == 0);
+    {
+        const size_t length = SM_SHEET_BYTES(7);
+        uint8_t *sheet = blank(7), raw[SM_SHEET_BYTES(7)];
+        sm_row row;
+        CHECK(sm_blank(raw, length, 7) == 0);
+        CHECK(sm_enter_ellipk(sheet, length, 0, 0.5) == 0 && sm_edit(raw, length, 0, SM_ELLIPK, sm_pattern(0.5), 0, 0) == 0);
+        CHECK(sm_enter_ellipe(sheet, length, 1, 0.25) == 0 && sm_edit(raw, length, 1, SM_ELLIPE, sm_pattern(0.25), 0, 0) == 0);
+        CHECK(sm_enter_ellipke(sheet, length, 2, -3.0) == 0 && sm_edit(raw, length, 2, SM_ELLIPKE, sm_pattern(-3.0), 0, 0) == 0);
+        CHECK(sm_enter_ellippi(sheet, length, 3, 1.0, 0.5) == 0 && sm_edit(raw, length, 3, SM_ELLIPPI, ONE, sm_pattern(0.5), 0) == 0);
+        CHECK(sm_enter_ellipeinc(sheet, length, 4, 100000.0, 0.0) == 0 && sm_edit(raw, length, 4, SM_ELLIPEINC, sm_pattern(1e5), 0, 0) == 0);
+        CHECK(sm_enter_ellipf(sheet, length, 5, 0.75, 0.5) == 0 &&
+              sm_edit(raw, length, 5, SM_ELLIPF, sm_pattern(0.75), sm_pattern(0.5), 0) == 0);
+        CHECK(sm_enter_ellipk(sheet, length, 6, 0.5) == 0 && sm_clear(sheet, length, 6) == 0);
+        CHECK(memcmp(sheet, raw, length) == 0);
+        only_read(1);
+        CHECK(sm_sum(sheet, length) == sm_value(sm_total(raw, length)) && sm_sum(sheet, length) > 100000.0);
+        CHECK(sm_read(sheet, length, 4, &row) == 0 && row.function == SM_ELLIPEINC && row.refusal == 0);
+        CHECK(row.arguments[0] == 100000.0 && row.arguments[1] == 0.0 && row.arguments[2] == 0.0 && row.answers[0] == 100000.0 && row.answers[1] == 0.0);
+        CHECK(sm_read(sheet, length, 3, &row) == 0 && row.refusal == SM_CHARACTERISTIC_ONE && row.answers[0] == 0.0 && row.arguments[1] == 0.5);
+        CHECK(sm_read(sheet, length, 7, &row) == SM_NO_SUCH_ROW && row.function == 0 && row.refusal == 0 && row.arguments[0] == 0.0);
+        CHECK(sm_read(sheet, length - 1, 0, &row) == SM_NOT_A_SHEET && sm_sum(sheet, length - 1) == 0.0);
+        CHECK(sm_enter_ellipk(sheet, length, 7, 0.5) == SM_NO_SUCH_ROW && sm_clear(sheet, length, 7) == SM_NO_SUCH_ROW);
+        only_read(0);
+    }
+}
+
 static void good_sheets(void)
 {
     const size_t length = SM_SHEET_BYTES(4);
@@ -258,6 +301,7 @@ int main(void)
         return 1;
     }
     functions();
+    doubles();
     good_sheets();
     bad_sheets();
     damaged_sheets();

@@ -6,9 +6,9 @@ use std::num::NonZeroU8;
 /// is wrong and what to do next.
 ///
 /// ```
-/// use shuttlemint::{ellipk, Refusal};
+/// use shuttlemint::{integrals, Refusal};
 ///
-/// let refusal = ellipk(1.5).unwrap_err();
+/// let refusal = integrals::ellipk(1.5).unwrap_err();
 /// assert_eq!(refusal, Refusal::PARAMETER_ABOVE_ONE);
 /// assert_eq!(refusal.number(), 2);
 /// assert!(refusal.to_string().starts_with("refusal 2: m is greater than 1"));
@@ -101,7 +101,7 @@ impl fmt::Debug for Refusal {
 
 impl std::error::Error for Refusal {}
 
-/// The error type of crate ellip, so that a function which returns it can go on using `?`.
+/// The error type of crate ellip. `?` takes a [`Refusal`] to it.
 pub type StrErr = &'static str;
 
 impl From<Refusal> for StrErr {

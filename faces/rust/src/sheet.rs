@@ -1,10 +1,10 @@
 //! The leg sheet. docs/SHEET.md of the project has its bytes.
 use crate::face;
 use crate::refusal::{accepted, Refusal};
+use crate::Integral;
 use std::fmt;
 
 const ROW: usize = 48;
-const TOTALS: usize = 296;
 const EMPTY: usize = 328;
 const MOST_ROWS: u32 = 1024;
 
@@ -16,10 +16,10 @@ fn part<const N: usize>(bytes: &[u8], at: usize) -> [u8; N] {
 /// A leg sheet in bytes that are owned (`Sheet`, which is `Sheet<Vec<u8>>`), lent (`Sheet<&mut [u8]>`) or only read (`Sheet<&[u8]>`).
 ///
 /// ```
-/// use shuttlemint::{Refusal, Sheet};
+/// use shuttlemint::{Integral, Refusal, Sheet};
 ///
 /// let mut sheet = Sheet::blank(1)?;
-/// sheet.edit(0, 2, 0.5f64.to_bits(), 0, 0)?;
+/// sheet.enter(0, Integral::ellipe(0.5))?;
 /// let file = sheet.into_bytes();
 ///
 /// let sheet = Sheet::from_bytes(&file[..])?;
@@ -51,7 +51,17 @@ impl<B: AsRef<[u8]>> Sheet<B> {
 
     /// How many rows it has.
     pub fn rows(&self) -> u32 {
-        (self.as_bytes().len().saturating_sub(EMPTY) / ROW) as u32
+        // The first row that can't be read: the rows below `least` can, those from `most` on can't.
+        let (mut least, mut most) = (0, MOST_ROWS);
+        while least < most {
+            let middle = (least + most) / 2;
+            if face::row_refusal(self.as_bytes(), middle) == 0 {
+                least = middle + 1;
+            } else {
+                most = middle;
+            }
+        }
+        least
     }
 
     /// A row, in its own bytes of the sheet. Refusal: 8 for no such row.
@@ -59,7 +69,8 @@ impl<B: AsRef<[u8]>> Sheet<B> {
         let bytes = self.as_bytes();
         accepted(face::row_refusal(bytes, row))?;
         let at = face::row_at(bytes, row);
-        Ok(Row { bytes: bytes[at..at + ROW].try_into().expect("48 bytes are a row") })
+        let class = Class::ALL.get(face::row_class(bytes, row) as usize).copied();
+        Ok(Row { bytes: bytes[at..at + ROW].try_into().expect("48 bytes are a row"), class })
     }
 
     /// All rows, from row 0 on.
@@ -76,10 +87,10 @@ impl<B: AsRef<[u8]>> Sheet<B> {
     /// The exact total of the finite rows' first answers, rounded once. It can be infinite, and a zero is +0.
     ///
     /// ```
-    /// # use shuttlemint::Sheet;
+    /// # use shuttlemint::{Integral, Sheet};
     /// let mut sheet = Sheet::blank(3).unwrap();
-    /// for (row, leg) in [1e300f64, 1.0, -1e300].into_iter().enumerate() {
-    ///     sheet.edit(row as u32, 5, leg.to_bits(), 0, 0).unwrap();
+    /// for (row, leg) in [1e300, 1.0, -1e300].into_iter().enumerate() {
+    ///     sheet.enter(row as u32, Integral::ellipeinc(leg, 0.0)).unwrap();
     /// }
     /// assert_eq!(sheet.total(), 1.0);
     /// ```
@@ -89,11 +100,7 @@ impl<B: AsRef<[u8]>> Sheet<B> {
 
     /// How many rows are of this class, by the sheet's own counts.
     pub fn count(&self, class: Class) -> u32 {
-        let bytes = self.as_bytes();
-        match bytes.len().checked_sub(TOTALS) {
-            Some(totals) => u32::from_le_bytes(part(bytes, totals + 4 * class as usize)),
-            None => 0,
-        }
+        face::count(self.as_bytes(), class as u8)
     }
 
     /// All its bytes.
@@ -123,7 +130,14 @@ impl<B: AsRef<[u8]> + AsMut<[u8]>> Sheet<B> {
         Ok(Sheet { bytes })
     }
 
-    /// Works out the function of this number at its arguments' bit patterns and puts it in the row, in place of what stands there.
+    /// Works out the integral and puts it in the row, in place of what stands there. Refusals, each changing no byte: 8 for no such row, 10 for
+    /// a damaged row or damaged counts. A refusal of the integral itself, 1 to 6, is not among them: the row keeps it.
+    pub fn enter(&mut self, row: u32, integral: Integral) -> Result<(), Refusal> {
+        let [a, b, c] = integral.arguments();
+        self.edit(row, integral.function(), a, b, c)
+    }
+
+    /// [`enter`](Sheet::enter) by number and bit patterns: works out the function of this number at its arguments' bit patterns and puts it in the row, in place of what stands there.
     /// Arguments that the function does not have are stored as 0. Refusals, in this order, each changing no byte: 8 for no such row, 9 for no
     /// such function, 10 for a damaged row or damaged counts. A refusal of the function itself, 1 to 6, is not among them: the row keeps it.
     pub fn edit(&mut self, row: u32, function: u8, a: u64, b: u64, c: u64) -> Result<(), Refusal> {
@@ -133,9 +147,9 @@ impl<B: AsRef<[u8]> + AsMut<[u8]>> Sheet<B> {
     /// Makes a row blank: an edit to function 0.
     ///
     /// ```
-    /// # use shuttlemint::{Refusal, Sheet};
+    /// # use shuttlemint::{Integral, Refusal, Sheet};
     /// let mut sheet = Sheet::blank(1)?;
-    /// sheet.edit(0, 3, 0.25f64.to_bits(), 0, 0)?;
+    /// sheet.enter(0, Integral::ellipke(0.25))?;
     /// sheet.clear(0)?;
     /// assert_eq!(sheet, Sheet::blank(1)?);
     /// # Ok::<(), Refusal>(())
@@ -160,10 +174,16 @@ pub enum Class {
     Refused,
 }
 
+impl Class {
+    /// All classes, in the order of a sheet's counts.
+    pub const ALL: [Class; 5] = [Class::Blank, Class::Finite, Class::PlusInfinity, Class::MinusInfinity, Class::Refused];
+}
+
 /// A row's own 48 bytes in a sheet.
 #[derive(Clone, Copy, PartialEq, Eq)]
 pub struct Row<'a> {
     bytes: &'a [u8; ROW],
+    class: Option<Class>,
 }
 
 impl<'a> Row<'a> {
@@ -194,12 +214,12 @@ impl<'a> Row<'a> {
     /// The answers as numbers, or the row's refusal.
     ///
     /// ```
-    /// # use shuttlemint::{ellipke, Refusal, Sheet};
+    /// # use shuttlemint::{integrals::ellipke, Integral, Refusal, Sheet};
     /// let mut sheet = Sheet::blank(1)?;
-    /// sheet.edit(0, 3, 0.5f64.to_bits(), 0, 0)?;
+    /// sheet.enter(0, Integral::ellipke(0.5))?;
     /// let (first, second) = ellipke(0.5)?;
     /// assert_eq!(sheet.row(0)?.values(), Ok([first, second]));
-    /// sheet.edit(0, 3, 2f64.to_bits(), 0, 0)?;
+    /// sheet.enter(0, Integral::ellipke(2.0))?;
     /// assert_eq!(sheet.row(0)?.values(), Err(Refusal::PARAMETER_ABOVE_ONE));
     /// # Ok::<(), Refusal>(())
     /// ```
@@ -210,18 +230,7 @@ impl<'a> Row<'a> {
 
     /// The row's class; none where the first answer is NaN, which is damage.
     pub fn class(self) -> Option<Class> {
-        if self.function() == 0 {
-            return Some(Class::Blank);
-        }
-        if self.refusal().is_some() {
-            return Some(Class::Refused);
-        }
-        match f64::from_bits(self.answers()[0]) {
-            x if x.is_finite() => Some(Class::Finite),
-            x if x == f64::INFINITY => Some(Class::PlusInfinity),
-            x if x == f64::NEG_INFINITY => Some(Class::MinusInfinity),
-            _ => None,
-        }
+        self.class
     }
 
     /// The 48 bytes themselves, in the sheet.

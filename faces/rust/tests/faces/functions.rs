@@ -2,7 +2,8 @@
 use crate::lent;
 use crate::model::{self, LARGEST, LAST, MINUS, NAN, ONE, PLUS, SIGN, TWO};
 use crate::random::Random;
-use shuttlemint::{ellipe, ellipeinc, ellipf, ellipk, ellipke, ellippi, evaluate, Refusal, StrErr};
+use shuttlemint::integrals::{ellipe, ellipeinc, ellipf, ellipk, ellipke, ellippi};
+use shuttlemint::{evaluate, Refusal, StrErr};
 
 /// Holds one evaluation, by both faces, to the rules.
 pub fn check(function: u8, arguments: [u64; 3], other: [u64; 3]) -> u8 {
@@ -173,4 +174,77 @@ fn refusals_say_what_to_do() {
     }
     assert_eq!(as_ellip(2.0), Err(Refusal::PARAMETER_ABOVE_ONE.message()));
     assert_eq!(boxed(2.0).unwrap_err().to_string(), Refusal::PARAMETER_ABOVE_ONE.to_string());
+}
+
+/// Crate ellip's signatures at f64, by both of its paths, and its texts. A program that uses them stands in faces/rust/ellip.
+#[test]
+fn ellip_signatures_and_texts() {
+    use shuttlemint::legendre;
+    type One = fn(f64) -> Result<f64, StrErr>;
+    type Two = fn(f64, f64) -> Result<f64, StrErr>;
+    type Safe = fn(f64) -> Result<f64, Refusal>;
+    type Pair = fn(f64) -> Result<(f64, f64), StrErr>;
+    let above = ": m must not be greater than 1.";
+    let not_a_number = ": Arguments cannot be NAN.";
+    let said = |name: &str, text: &str| format!("{name}{text}");
+    for (name, f, safe) in [
+        ("ellipk", [shuttlemint::ellipk as One, legendre::ellipk], ellipk as Safe),
+        ("ellipe", [shuttlemint::ellipe, legendre::ellipe], ellipe as Safe),
+    ] {
+        for f in f {
+            assert_eq!(f(0.5).unwrap(), safe(0.5).unwrap());
+            assert_eq!(f(2.0).unwrap_err(), said(name, above));
+            assert_eq!(f(f64::NAN).unwrap_err(), said(name, not_a_number));
+        }
+    }
+    for f in [shuttlemint::ellipke as Pair, legendre::ellipke] {
+        assert_eq!(f(0.5).unwrap(), ellipke(0.5).unwrap());
+        assert_eq!(f(2.0).unwrap_err(), said("ellipke", above));
+        assert_eq!(f(f64::NAN).unwrap_err(), said("ellipke", not_a_number));
+    }
+    for f in [shuttlemint::ellippi as Two, legendre::ellippi] {
+        assert_eq!(f(0.25, 0.5).unwrap(), ellippi(0.25, 0.5).unwrap());
+        assert_eq!(f(0.25, 2.0).unwrap_err(), said("ellippi", above));
+        assert_eq!(f(1.0, 0.5).unwrap_err(), "ellippi: n cannot be 1.");
+        assert_eq!(f(f64::NAN, 0.5).unwrap_err(), said("ellippi", not_a_number));
+        assert_eq!(f(2.0, -(2f64.powi(683))).unwrap_err(), "ellippi: Unexpected error.");
+    }
+    for f in [shuttlemint::ellipeinc as Two, legendre::ellipeinc] {
+        assert_eq!(f(0.75, 0.5).unwrap(), ellipeinc(0.75, 0.5).unwrap());
+        assert_eq!(f(1.0, 2.0).unwrap_err(), "ellipeinc: m sin²φ must be smaller than one.");
+        assert_eq!(f(2f64.powi(60), 2.0).unwrap_err(), said("ellipe", above));
+        assert_eq!(f(1.0, f64::NAN).unwrap_err(), said("ellipeinc", not_a_number));
+    }
+    for f in [shuttlemint::ellipf as Two, legendre::ellipf] {
+        assert_eq!(f(0.75, 0.5).unwrap(), ellipf(0.75, 0.5).unwrap());
+        assert_eq!(f(2.0, 1.0).unwrap_err(), "ellipf: m sin²φ must be smaller than one.");
+        assert_eq!(f(f64::NAN, 0.0).unwrap_err(), said("ellipf", not_a_number));
+    }
+}
+
+#[test]
+fn the_three_sorts() {
+    use shuttlemint::{Amplitude, Characteristic, Integral, Parameter, Sheet};
+    let (phi, n, m) = (Amplitude(0.75), Characteristic(0.25), Parameter(0.5));
+    // Each function by sorts, by plain floats, and entered in a row.
+    let all = [
+        (Integral::ellipk(m), Integral::ellipk(0.5), ellipk(m)),
+        (Integral::ellipe(m), Integral::ellipe(0.5), ellipe(m)),
+        (Integral::ellipke(m), Integral::ellipke(0.5), ellipke(m).map(|(k, _)| k)),
+        (Integral::ellippi(n, m), Integral::ellippi(0.25, 0.5), ellippi(n, m)),
+        (Integral::ellipeinc(phi, m), Integral::ellipeinc(0.75, 0.5), ellipeinc(phi, m)),
+        (Integral::ellipf(phi, m), Integral::ellipf(0.75, 0.5), ellipf(phi, m)),
+    ];
+    let mut sheet = Sheet::blank(LAST as u32).unwrap();
+    for (row, (sorts, floats, first)) in all.into_iter().enumerate() {
+        assert_eq!(sorts, floats);
+        assert_eq!(sorts.function() as usize, row + 1);
+        assert_eq!(sorts.values().unwrap()[0], first.unwrap());
+        sheet.enter(row as u32, sorts).unwrap();
+        let entered = sheet.row(row as u32).unwrap();
+        assert_eq!((entered.function(), entered.arguments()), (sorts.function(), sorts.arguments()));
+        assert_eq!(entered.values(), sorts.values());
+    }
+    assert_eq!(sheet.enter(LAST as u32, all[0].0), Err(Refusal::NO_SUCH_ROW));
+    assert_eq!((f64::from(phi), f64::from(n), f64::from(m)), (0.75, 0.25, 0.5));
 }

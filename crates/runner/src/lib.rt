@@ -4,12 +4,11 @@ use line::LONGEST;
 use page::LARGEST;
 use page::ROOM;
 ghost use mathlib.Core.Path.{_≡_};
-ghost use mathlib.Core.Bool.{_&&_, not};
-ghost use Prim.Native.Nat.{_≤_};
-ghost use lib.ListN.{length};
-ghost use Rattle.engine.specs.Machine.{room, feedOf};
+ghost use Prim.Native.Nat.{suc, _≤_, _<_};
+ghost use lib.ListN.{length, take};
+ghost use Rattle.engine.specs.Machine.{room, startOf};
 ghost use Rattle.page.specs.Writing.{Put};
-ghost use Rattle.runner.specs.Turns.{broughtOf, someOf, failedOf, textOf, Next, Reads, Ran};
+ghost use Rattle.runner.specs.Reads.{Came, read, Next, mostReads, textOf, Sent, OneRead, SomeReads, Ran, Done};
 
 // What the reads so far came to, whether there may be more, and whether the last one failed.
 struct Turn {
@@ -27,8 +26,7 @@ fn take_part(
     line: &mut [u8; LONGEST],
     sheet: &mut [u8; LARGEST],
 ) -> Turn
-    ensures { λ r. ⌜ room (r .st) (now (line .exit)) (now (sheet .exit)) ≡ feedOf (room st (now (line .entry)) (now (sheet .entry))) (broughtOf got (now (part .entry))) ⌝ }
-    ensures { λ r. ⌜ (r .more ≡ (someOf got (now (part .entry)) && not (r .st .bad))) × (r .failed ≡ failedOf got) ⌝ }
+    ensures { λ r. ⌜ Next (room st (now (line .entry)) (now (sheet .entry))) (read got (now (part .entry))) (room (r .st) (now (line .exit)) (now (sheet .exit))) (r .more) (r .failed) ⌝ }
 {
     let n = io::count(got, part);
     let next = engine::feed(st, &part[..n], line, sheet);
@@ -39,24 +37,41 @@ fn take_part(
     }
 }
 
+// The one call of read: the reads that are left to make are one fewer.
+fn read_some(input: i32, left: &mut u64, part: &mut [u8]) -> isize
+    requires { ⌜ 0 < now left ⌝ }
+    ensures { λ r. ⌜ now (left .entry) ≡ suc (now (left .exit)) ⌝ }
+    ensures { λ r. ⌜ Came (now (left .entry)) (read r (now (part .exit))) ⌝ }
+{
+    *left -= 1;
+    libc::read(input, part)
+}
+
 // One read, and what it brings.
-fn read_part(input: i32, st: State, line: &mut [u8; LONGEST], sheet: &mut [u8; LARGEST]) -> Turn
-    ensures { λ r. ⌜ Next (room st (now (line .entry)) (now (sheet .entry))) (room (r .st) (now (line .exit)) (now (sheet .exit))) ⌝ }
+fn read_part(
+    input: i32,
+    left: &mut u64,
+    st: State,
+    line: &mut [u8; LONGEST],
+    sheet: &mut [u8; LARGEST],
+) -> Turn
+    requires { ⌜ 0 < now left ⌝ }
+    ensures { λ r. ⌜ now (left .entry) ≡ suc (now (left .exit)) ⌝ }
+    ensures { λ r. ⌜ OneRead (now (left .entry)) (room st (now (line .entry)) (now (sheet .entry))) (room (r .st) (now (line .exit)) (now (sheet .exit))) (r .more) (r .failed) ⌝ }
 {
     let mut part = io::buffer();
-    let got = libc::read(input, &mut part);
+    let got = read_some(input, left, &mut part);
     take_part(got, &part, st, line, sheet)
 }
 
 // The whole input. A loop has to end, so reading on past 2^64 - 1 reads counts as a failure.
 fn read_all(input: i32, line: &mut [u8; LONGEST], sheet: &mut [u8; LARGEST]) -> Turn
-    ensures { λ r. ⌜ Reads (now (line .entry)) (now (sheet .entry)) (room (r .st) (now (line .exit)) (now (sheet .exit))) ⌝ }
+    ensures { λ r. ⌜ SomeReads mostReads (room startOf (now (line .entry)) (now (sheet .entry))) (room (r .st) (now (line .exit)) (now (sheet .exit))) (r .failed) ⌝ }
 {
     let mut st = engine::start();
-    let mut turns = u64::MAX;
-    while 0 < turns {
-        turns -= 1;
-        let turn = read_part(input, st, line, sheet);
+    let mut left = u64::MAX;
+    while 0 < left {
+        let turn = read_part(input, &mut left, st, line, sheet);
         if !turn.more {
             return turn;
         }
@@ -86,14 +101,25 @@ fn put_text(
     engine::print(end, sheet, out)
 }
 
-fn write_text(output: i32, text: &[u8], failed: bool) {
+// The one call that writes to the output.
+fn send(output: i32, text: &[u8]) -> bool
+    ensures { λ r. ⌜ Sent (now (text .entry)) ⌝ }
+{
+    io::write_all(output, text)
+}
+
+// Only what the reads came to is written; of a failure standard error is told too.
+fn write_text(output: i32, text: &[u8], failed: bool)
+    requires { ⌜ Ran (now text) failed ⌝ }
+    ensures { λ _. ⌜ Sent (now (text .entry)) ⌝ }
+{
     if failed {
         io::write_all(
             libc::STDERR_FILENO,
             b"legsheet: the input could not be read to its end, so no sheet is printed; give it again as a whole\n",
         );
     }
-    if !io::write_all(output, text) {
+    if !send(output, text) {
         io::write_all(
             libc::STDERR_FILENO,
             b"legsheet: the output could not be written, and what is there is cut off; run it again\n",
@@ -109,7 +135,7 @@ struct Text {
 
 // From the input to what is to be written.
 fn read_text(input: i32, out: &mut [u8; ROOM]) -> Text
-    ensures { λ r. ⌜ Ran (now (out .exit)) (r .length) (r .failed) ⌝ }
+    ensures { λ r. ⌜ Ran (take (r .length) (now (out .exit))) (r .failed) ⌝ }
     ensures { λ r. ⌜ r .length ≤ length (now (out .exit)) ⌝ }
 {
     let mut line = [0u8; LONGEST];
@@ -122,9 +148,9 @@ fn read_text(input: i32, out: &mut [u8; ROOM]) -> Text
     }
 }
 
-// One run, from one descriptor to another. It lends nothing, and what is read and written no contract can say.
+// One run, from one descriptor to another.
 pub fn run(input: i32, output: i32)
-    ensures { λ r. ⌜ r ≡ tt ⌝ }
+    ensures { λ _. ⌜ Done ⌝ }
 {
     let mut out = [0u8; ROOM];
     let text = read_text(input, &mut out);

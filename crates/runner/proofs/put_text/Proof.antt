@@ -5,7 +5,7 @@ use Prim.Native.Nat.{ℕ}
 use borrow.Author.Needs.{needs}
 use Rattle.engine.specs.Machine.{Room, finishOf, outputOf, printOf}
 use Rattle.page.specs.Writing.{Put}
-use Rattle.runner.specs.Turns.{textOf}
+use Rattle.runner.specs.Reads.{textOf}
 use Rattle.runner.proofs.put_text.Statement.{statement}
 use Rattle.runner.proofs.put_text.Tie as tie
 

@@ -1,40 +1,47 @@
--- The count of reads left falls, and the state is what the parts so far led to.
+-- Whatever the reads that are left come to, all of them together come to that.
+use mathlib.Core.Bool.{Bool}
+use native.Mathlib.Omega.{arith}
 use borrow.Author.Needs.{needs}
-use Rattle.engine.specs.Machine.{room}
-use Rattle.runner.specs.Turns.{Reads}
-use Rattle.runner.proofs.Reading.{none-read, one-more}
+use borrow.Author.Tests.{not-true, not-false}
+use Rattle.engine.specs.Machine.{Room, room, startOf}
+use Rattle.runner.specs.Reads.{mostReads, SomeReads}
+use Rattle.runner.proofs.Reading.{ended, one-more, none-left}
 use Rattle.runner.proofs.read_all.Statement.{statement}
 use Rattle.runner.proofs.read_all.Tie as tie
 
 abbrev Inv-loop : tie.InvT-loop
-Inv-loop input line₀ sheet₀ st₀ turns₀ line sheet st turns = Reads line₀ sheet₀ (room st line sheet)
+Inv-loop input line₀ sheet₀ st₀ left₀ line sheet st left =
+    (v : Room) (failed : Bool) → SomeReads left (room st line sheet) v failed → SomeReads mostReads (room startOf line₀ sheet₀) v failed
 
 abbrev μ-loop : tie.MeasureT-loop
-μ-loop input line₀ sheet₀ st₀ turns₀ line sheet st turns = turns
+μ-loop input line₀ sheet₀ st₀ left₀ line sheet st left = left
 
 start-requires : tie.Need-start-requires Inv-loop μ-loop
 start-requires c κs = search needs
 
 loop-holds : tie.Need-loop-holds Inv-loop μ-loop
-loop-holds c = none-read (c .start .ensures)
-
-sub-turns : tie.Need-sub-turns Inv-loop μ-loop
-sub-turns c = search needs
+loop-holds c v failed all = rw (← c .start .ensures) all
 
 read-part-requires : tie.Need-read-part-requires Inv-loop μ-loop
 read-part-requires c κs = search needs
 
 returns : tie.Need-returns Inv-loop μ-loop
-returns c = one-more (c .before .before .before .before .before .before .loop .inv) (c .before .before .read-part .ensures)
+returns c =
+    let head = c .before .before .before .before .before .before .before .loop in
+    let turn = c .before .before .read-part in
+    head .inv _ _ (ended (turn .ensures .0) (turn .ensures .1) (not-true _ (c .if1 .taken)))
 
 loop-less : tie.Need-loop-less Inv-loop μ-loop
-loop-less c = search needs
+loop-less c = omega (arith, c .before .before .before .read-part .ensures .0)
 
 loop-again : tie.Need-loop-again Inv-loop μ-loop
-loop-again c = one-more (c .before .before .before .before .before .before .before .loop .inv) (c .before .before .before .read-part .ensures)
+loop-again c v failed rest =
+    let head = c .before .before .before .before .before .before .before .before .loop in
+    let turn = c .before .before .before .read-part in
+    head .inv v failed (one-more (turn .ensures .0) (turn .ensures .1) (not-false _ (c .before .if1 .left)) rest)
 
 returns-2 : tie.Need-returns-2 Inv-loop μ-loop
-returns-2 c = c .before .loop .inv
+returns-2 c = c .before .loop .inv _ _ (none-left (c .before .loop .left) (c .loop-test .left))
 
 pub read-all-spec : {M : Type 1} → statement M
 read-all-spec =
@@ -44,7 +51,6 @@ read-all-spec =
     μ-loop
     start-requires
     loop-holds
-    sub-turns
     read-part-requires
     returns
     loop-less

@@ -11,7 +11,7 @@ use mir.ValLaws.{toZ-ofZ}
 use borrow.Author.Needs.{needs}
 use Rattle.io.specs.Counts.{clamped}
 use Rattle.engine.specs.Machine.{room, feedOf}
-use Rattle.runner.specs.Turns.{broughtOf, someOf, failedOf}
+use Rattle.runner.specs.Reads.{broughtOf, failedOf, goesOn}
 use Rattle.runner.proofs.take_part.Statement.{statement}
 use Rattle.runner.proofs.take_part.Tie as tie
 
@@ -25,17 +25,19 @@ feed-requires : tie.Need-feed-requires
 feed-requires c κs = search needs
 
 returns : tie.Need-returns
-unfolding broughtOf someOf failedOf
+unfolding broughtOf failedOf goesOn
 returns c =
     let s = c .before .before .before .before .before .before .before in
     let n = c .before .before .before .before .before .count in
     let next = c .before .feed in
     let got = toZ-ofZ w64 (s .args .got) (s .fits .got) in
     let part = s .args .part .now in
-    let brought : n .result ≡ clamped (s .args .got) (length part) = n .ensures .1 ∙ ap (λ (z : ℤ). clamped z (length part)) got in (
-      next .ensures ∙ ap (λ (k : ℕ). feedOf (room (s .args .st) (s .args .line .now) (s .args .sheet .now)) (take k part)) brought,
-      (ap (λ (k : ℕ). ltb 0 k && not (next .result .bad)) brought, ap (λ (z : ℤ). ltZ z (pos 0)) got),
-    )
+    let brought : n .result ≡ clamped (s .args .got) (length part) = n .ensures .1 ∙ ap (λ (z : ℤ). clamped z (length part)) got in
+    record {
+      fed = next .ensures ∙ ap (λ (k : ℕ). feedOf (room (s .args .st) (s .args .line .now) (s .args .sheet .now)) (take k part)) brought;
+      goes-on = ap (λ (k : ℕ). ltb 0 k && not (next .result .bad)) (n .ensures .0 .1 ∙ ap (λ (k : ℕ). length (take k part)) brought);
+      fails = ap (λ (z : ℤ). ltZ z (pos 0)) got;
+    }
 
 pub take-part-spec : {M : Type 1} → statement M
 take-part-spec = tie.close (tie.spec count-requires slice-aggregate-feed feed-requires returns)

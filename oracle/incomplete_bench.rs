@@ -44,7 +44,7 @@ fn evaluate(function: u8, a: f64, b: f64) -> f64 {
 fn rounds(phi: f64, m: f64) -> (usize, usize) {
     let (s, c) = phi.sin_cos();
     let (c, c1) = (1.0 / (s * s), c * c / (s * s));
-    (twin::carlson::rf(c1, c - m, c).rounds, twin::carlson::rd(c1, c - m, c).rounds)
+    (twin::rf::rf(c1, c - m, c).rounds, twin::rd::rd(c1, c - m, c).rounds)
 }
 
 fn main() {

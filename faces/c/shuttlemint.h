@@ -1,8 +1,8 @@
 /* Shuttlemint: elliptic integrals and the leg sheet, in a library in which every function is proved.
 
-   Link target/staticlib/libshuttlemint.a, which `rt staticlib shuttlemint` writes, and the C library's -lm, on x86-64 Linux:
+   Link target/staticlib/libshuttlemint.a, which `rt staticlib shuttlemint` writes, on x86-64 Linux:
 
-       cc -Ifaces/c program.c target/staticlib/libshuttlemint.a -lm
+       cc -Ifaces/c program.c target/staticlib/libshuttlemint.a
 
    What holds of every call
    - It answers for all values of its arguments and for any bytes. There is nothing that a caller must make sure of but the next three points.
@@ -15,7 +15,7 @@
      underflow and inexact as IEEE 754 has it, and clear none; no answer depends on a flag. Where the host lets one of them trap (feenableexcept), a call
      may end in SIGFPE. feholdexcept(&env) before it and fesetenv(&env) behind it mask the traps for its length, and the host's flags stay as they were.
    - It keeps no pointer and has no state: any threads may call at the same time, on sheets of their own or reading one together.
-   - It takes no memory, calls nothing but memcpy, memset and fmod, and ends within bounded work.
+   - It takes no memory, calls nothing but memcpy and memset, and ends within bounded work.
 
    Two offers stand below. The first takes and gives doubles. The second is the library's own calls: there a float goes over as its bit pattern, a uint64_t, as
    it stands in a sheet. A double given to one of those does not compile; sm_pattern and sm_value go there and back. (A pattern given to the first offer does,
@@ -156,6 +156,11 @@ uint8_t sm_edit(uint8_t *sheet, size_t sheet_length, uint32_t row, uint8_t funct
 size_t sm_row_at(const uint8_t *sheet, size_t sheet_length, uint32_t row);
 uint8_t sm_row_refusal(const uint8_t *sheet, size_t sheet_length, uint32_t row);
 
+/* The row's class: blank (0), finite (1), +infinity (2), -infinity (3) or refused (4); 5 where the first answer is NaN, which is damage, or the row can't be
+   read. sm_count gives how many rows are of a class, by the sheet's own counts; 0 for a class above 4, and where the bytes are no sheet. */
+size_t sm_row_class(const uint8_t *sheet, size_t sheet_length, uint32_t row);
+uint32_t sm_count(const uint8_t *sheet, size_t sheet_length, uint8_t class_number);
+
 /* The pattern of the exact total of the finite rows' first answers, rounded once, ties to even: too large is infinite, zero is +0. Where the bytes are no
    sheet it is +0, and sm_total_refusal gives 7, else 0. */
 uint64_t sm_total(const uint8_t *sheet, size_t sheet_length);
@@ -174,6 +179,7 @@ uint8_t sm_total_refusal(const uint8_t *sheet, size_t sheet_length);
 #define sm_round(x) sm_round(SM_WHOLE(x))
 #define sm_root(x) sm_root(SM_WHOLE(x))
 #define sm_fused(x, y, z) sm_fused(SM_WHOLE(x), SM_WHOLE(y), SM_WHOLE(z))
+#define sm_remainder(x, y) sm_remainder(SM_WHOLE(x), SM_WHOLE(y))
 #define sm_sine(x) sm_sine(SM_WHOLE(x))
 #define sm_cosine(x) sm_cosine(SM_WHOLE(x))
 #define sm_logarithm(x) sm_logarithm(SM_WHOLE(x))

@@ -67,6 +67,4 @@ fn main() {
     }
     println!("cargo:rustc-link-search=native={folder}");
     println!("cargo:rustc-link-lib=static=shuttlemint");
-    // The library takes remainders by C's fmod.
-    println!("cargo:rustc-link-lib=m");
 }

@@ -3,7 +3,8 @@ use Rattle.root.specs.laws.Corners.{RootCorners, root-corners}
 use Rattle.fused.specs.laws.Corners.{FusedCorner, fused-corner}
 use Rattle.whole.specs.laws.Corners.{WholeCorners, whole-corners}
 use Rattle.legendre.specs.laws.Corners as complete
-use Rattle.incomplete.specs.Corners as incomplete
+use Rattle.ellippi.specs.laws.Corners as ellippi
+use Rattle.ellipeinc.specs.laws.Corners as ellipeinc
 
 pub record CornerTable : Type 0 where
   -- √2, √(2^-1074), √-0
@@ -14,8 +15,10 @@ pub record CornerTable : Type 0 where
   pub whole : WholeCorners
   -- the piece of 0.85; ellipke at 1, -∞, 1 + 2^-52 and NaN
   pub complete-integrals : complete.Corners
-  -- ellippi at (1, 1), (2, 1), (0.5, 1); ellipeinc at (0, NaN) and (2^-1000, -∞)
-  pub other-integrals : incomplete.Corners
+  -- ellippi at (1, 1), (2, 1), (0.5, 1)
+  pub third-kind : ellippi.Corners
+  -- ellipeinc at (0, NaN) and (2^-1000, -∞)
+  pub second-kind : ellipeinc.Corners
 
 pub corner-table : CornerTable
-corner-table = record { root = root-corners; fused = fused-corner; whole = whole-corners; complete-integrals = complete.corners; other-integrals = incomplete.corners }
+corner-table = record { root = root-corners; fused = fused-corner; whole = whole-corners; complete-integrals = complete.corners; third-kind = ellippi.corners; second-kind = ellipeinc.corners }

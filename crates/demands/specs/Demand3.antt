@@ -1,94 +1,114 @@
--- DEMAND 3. For a sheet that the library made blank, and any list of edits, accepted or refused: the sheet is that of the rows worked out afresh
--- from the last accepted edit of each row. `run`, `after` and `answer` are the definitions that the contracts of `make_blank` and `edit` cite, so this
--- speaks of what the code does. It is one argument for every function number. Assumes nothing.
+-- DEMAND 3. For a sheet that the library made blank, or the sheet of any rows that were worked out, and any list of edits, accepted or refused: the sheet is that
+-- of the rows worked out afresh from the last accepted edit of each row. `run`, `after` and `answer` are the definitions that the contracts of `make_blank` and
+-- `edit` cite, so this speaks of what the code does. It is one argument for every function number. Assumes nothing.
 use mathlib.Core.Path.{_≡_, ap, _∙_, sym}
 use mathlib.Core.Logic.{_≢_}
 use mathlib.Core.Bool.{true, false, cond}
 use mathlib.Core.List.{List}
-use Prim.Native.Nat.{ℕ, zero, _-_, _^_, _≤_, _<_}
+use Prim.Native.Nat.{ℕ, _-_, _%_, _^_, _≤_, _<_}
 use borrow.Author.Tests.{eq-eqb, ne-eqb}
-use lib.Dec.{leb}
-use lib.ListN.{length, getD, replicate}
-use lib.Ieee.{round, binary64}
-use Rattle.total.specs.Total.{N, Half}
-use Rattle.sheet.specs.Sheet.{blankRow, encode}
-use Rattle.sheet.specs.Calls.{totalIn, blankRefusal, blankOf, editRefusal, editOf, totalRefusal, totalOf}
-use Rattle.sheet.specs.Refusals.{makeable}
-use Rattle.demands.specs.Edits.{Edit, answer, after, run, answerIn, fresh, above, below}
-use Rattle.demands.specs.Encoded.{answers, given, total-is}
-use Rattle.demands.specs.Whole.{above-small, below-small, total-whole, rounded-whole}
-use Rattle.demands.specs.Untouched.{Elsewhere, same-length, untouched}
-use Rattle.demands.specs.Runs.{fresh-rows, fresh-length, run-fresh, either-order}
+use lib.Dec.{T, leb}
+use lib.ListN.{length, getD, length-replicate}
+use lib.Ieee.{Float, round, fits, binary64}
+use lib.Ieee.Exact.{HasValue}
+use lib.Ieee.Scale.{finite}
+use Rattle.total.specs.Total.{N, Half, negative, sizeOf, addOf, takeOf}
+use Rattle.total.specs.laws.Units.{whole, undone}
+use Rattle.ledger.specs.Sheet.{Row, mostRows, encode}
+use Rattle.ledger.specs.Calls.{totalIn, blankRefusal, blankOf, totalRefusal, totalOf}
+use Rattle.ledger.specs.laws.Refusals.{makeable}
+use Rattle.sheet.specs.declared.Entry.{Entry}
+use Rattle.sheet.specs.Edit.{rowOf, editRefusal, editOf}
+use Rattle.sheet.specs.laws.Stored.{Says, says}
+use Rattle.demands.specs.Edits.{Edit, answer, after, run, answerIn, fresh, blanks, AllWorked, above, below, Elsewhere}
+use Rattle.demands.specs.laws.Encoded.{answers, given, total-is}
+use Rattle.demands.specs.laws.Whole.{above-small, below-small, total-whole, rounded-whole}
+use Rattle.demands.specs.laws.Untouched.{same-length, untouched}
+use Rattle.demands.specs.laws.Rows.{Rows}
+use Rattle.demands.specs.laws.Runs.{fresh-rows, fresh-length, run-fresh, either-order, rows-worked, blanks-worked}
 
--- s: bytes that make_blank was given; r: how many rows
-pub record Demand3 (s : List ℕ) (r : ℕ) : Type 0 where
+-- s: the sheet's bytes; ws: the rows that it starts with
+pub record Demand3 (s : List ℕ) (ws : List Row) : Type 0 where
   -- answers, refusals, counts and total are those of the rows worked out afresh
-  pub sheet : (es : List Edit) → run (blankOf s r) es ≡ encode (fresh r es)
+  pub sheet : (es : List Edit) → run s es ≡ encode (fresh ws es)
+  -- a row that was worked out says its function, and that function's refusal number and first answer
+  pub says-its-answer : (e : Entry) → (e .function ≡ 0 → ⊥) → Says e (rowOf e)
   -- an edit is refused by its row, then by its function, and for nothing else
-  pub refusals : (es : List Edit) (e : Edit) → answer (run (blankOf s r) es) e ≡ answerIn r (e .row) (e .function)
+  pub refusals : (es : List Edit) (e : Edit) → answer (run s es) e ≡ answerIn (length ws) e
   -- and then changes nothing
-  pub refused : (es : List Edit) (e : Edit) → (answerIn r (e .row) (e .function) ≡ 0 → ⊥) → after (run (blankOf s r) es) e ≡ run (blankOf s r) es
+  pub refused : (es : List Edit) (e : Edit) → (answerIn (length ws) e ≡ 0 → ⊥) → after (run s es) e ≡ run s es
   -- edits to different rows, in either order
-  pub either : (es : List Edit) (e f : Edit) → e .row ≢ f .row → after (after (run (blankOf s r) es) e) f ≡ after (after (run (blankOf s r) es) f) e
+  pub either : (es : List Edit) (e f : Edit) → e .row ≢ f .row → after (after (run s es) e) f ≡ after (after (run s es) f) e
   -- the total is the whole-number sum of the finite first answers, in units of 2^-1074: what is above zero less what is below, in two's complement
-  pub total : (es : List Edit) → let ws = fresh r es in totalIn (run (blankOf s r) es) ≡ cond (leb (below ws) (above ws)) (above ws - below ws) (N - (below ws - above ws))
+  pub total : (es : List Edit) → let vs = fresh ws es in totalIn (run s es) ≡ cond (leb (below vs) (above vs)) (above vs - below vs) (N - (below vs - above vs))
+  -- each part is exact: a finite f64 is a whole number of these units, with no digit cut off
+  pub exact : (x : Float) → T (fits binary64 x) → T (finite x) → HasValue x (negative x) (sizeOf x) (2 ^ 1074)
+  -- taking a value away undoes adding it
+  pub taken-back : (t : ℕ) (x : Float) → T (fits binary64 x) → takeOf (addOf t x) x ≡ t % N
   -- it never wraps: neither part reaches half of 2^2176
-  pub above-room : (es : List Edit) → above (fresh r es) < Half
-  pub below-room : (es : List Edit) → below (fresh r es) < Half
+  pub above-room : (es : List Edit) → above (fresh ws es) < Half
+  pub below-room : (es : List Edit) → below (fresh ws es) < Half
   -- so what is read is that sum rounded once, with its own sign
-  pub rounded : (es : List Edit) → let ws = fresh r es in
-      totalOf (run (blankOf s r) es) ≡ cond (leb (below ws) (above ws)) (round binary64 false (above ws - below ws) (2 ^ 1074)) (round binary64 true (below ws - above ws) (2 ^ 1074))
+  pub rounded : (es : List Edit) → let vs = fresh ws es in
+      totalOf (run s es) ≡ cond (leb (below vs) (above vs)) (round binary64 false (above vs - below vs) (2 ^ 1074)) (round binary64 true (below vs - above vs) (2 ^ 1074))
 
-module _ (s : List ℕ) (r : ℕ) (h : blankRefusal s r ≡ 0) where
-  few : r ≤ 1024
-  few = makeable s r h .0
-
-  made : blankOf s r ≡ encode (replicate r blankRow)
-  unfolding blankOf
-  made = rw (eq-eqb (blankRefusal s r) 0 h)
-
+module _ (s : List ℕ) (ws : List Row) (made : s ≡ encode ws) (rows : Rows ws) (few : length ws ≤ mostRows) where
   module _ (es : List Edit) where
-    ws-few : length (fresh r es) ≤ 1024
-    ws-few = rw (fresh-length r few es) few
+    few-fresh : length (fresh ws es) ≤ mostRows
+    few-fresh = rw (fresh-length ws es) few
 
-    sheet-is : run (blankOf s r) es ≡ encode (fresh r es)
-    sheet-is = ap (λ (t : List ℕ). run t es) made ∙ run-fresh r few es
+    sheet-is : run s es ≡ encode (fresh ws es)
+    sheet-is = ap (λ (t : List ℕ). run t es) made ∙ run-fresh ws rows few es
 
-    answer-is : (e : Edit) → answer (run (blankOf s r) es) e ≡ answerIn r (e .row) (e .function)
+    answer-is : (e : Edit) → answer (run s es) e ≡ answerIn (length ws) e
     answer-is e =
         ap (λ (t : List ℕ). answer t e) sheet-is
-        ∙ answers (fresh r es) (fresh-rows r few es) ws-few (e .row) (e .function)
-        ∙ ap (λ (n : ℕ). answerIn n (e .row) (e .function)) (fresh-length r few es)
+        ∙ answers (fresh ws es) (fresh-rows ws rows es) few-fresh e
+        ∙ ap (λ (n : ℕ). answerIn n e) (fresh-length ws es)
 
-    refused-is : (e : Edit) → (answerIn r (e .row) (e .function) ≡ 0 → ⊥) → after (run (blankOf s r) es) e ≡ run (blankOf s r) es
+    refused-is : (e : Edit) → (answerIn (length ws) e ≡ 0 → ⊥) → after (run s es) e ≡ run s es
     unfolding editOf
-    refused-is e g = rw (ne-eqb (editRefusal (run (blankOf s r) es) (e .row) (e .function)) 0 (λ z. g (sym (answer-is e) ∙ z)))
+    refused-is e g = rw (ne-eqb (answer (run s es) e) 0 (λ z. g (sym (answer-is e) ∙ z)))
 
-    either-is : (e f : Edit) → e .row ≢ f .row → after (after (run (blankOf s r) es) e) f ≡ after (after (run (blankOf s r) es) f) e
-    either-is e f g = rw sheet-is (either-order (fresh r es) (fresh-rows r few es) ws-few e f g)
+    either-is : (e f : Edit) → e .row ≢ f .row → after (after (run s es) e) f ≡ after (after (run s es) f) e
+    either-is e f g = rw sheet-is (either-order (fresh ws es) (fresh-rows ws rows es) few-fresh e f g)
 
-    total-is-whole : totalIn (run (blankOf s r) es) ≡ cond (leb (below (fresh r es)) (above (fresh r es))) (above (fresh r es) - below (fresh r es)) (N - (below (fresh r es) - above (fresh r es)))
-    total-is-whole = ap totalIn sheet-is ∙ total-is (fresh r es) (fresh-rows r few es) ws-few ∙ total-whole (fresh r es) ws-few
+    total-is-whole : let vs = fresh ws es in totalIn (run s es) ≡ cond (leb (below vs) (above vs)) (above vs - below vs) (N - (below vs - above vs))
+    total-is-whole = ap totalIn sheet-is ∙ total-is (fresh ws es) (fresh-rows ws rows es) few-fresh ∙ total-whole (fresh ws es) few-fresh
 
-    rounded-is : totalOf (run (blankOf s r) es) ≡ cond (leb (below (fresh r es)) (above (fresh r es))) (round binary64 false (above (fresh r es) - below (fresh r es)) (2 ^ 1074)) (round binary64 true (below (fresh r es) - above (fresh r es)) (2 ^ 1074))
+    rounded-is : let vs = fresh ws es in
+        totalOf (run s es) ≡ cond (leb (below vs) (above vs)) (round binary64 false (above vs - below vs) (2 ^ 1074)) (round binary64 true (below vs - above vs) (2 ^ 1074))
     unfolding totalOf
     rounded-is =
-        let t = run (blankOf s r) es in
-        let z : totalRefusal t ≡ 0 = ap totalRefusal sheet-is ∙ given (fresh r es) (fresh-rows r few es) ws-few in
+        let t = run s es in
+        let z : totalRefusal t ≡ 0 = ap totalRefusal sheet-is ∙ given (fresh ws es) (fresh-rows ws rows es) few-fresh in
         rw (eq-eqb (totalRefusal t) 0 z)
-        (rounded-whole (totalIn t) (below (fresh r es)) (above (fresh r es)) (below-small (fresh r es) ws-few) (above-small (fresh r es) ws-few) total-is-whole)
+        (rounded-whole (totalIn t) (below (fresh ws es)) (above (fresh ws es)) (below-small (fresh ws es) few-fresh) (above-small (fresh ws es) few-fresh) total-is-whole)
 
-  pub demand-3 : Demand3 s r
-  demand-3 = record {
+  demanded : Demand3 s ws
+  demanded = record {
     sheet = sheet-is;
+    says-its-answer = says;
     refusals = answer-is;
     refused = refused-is;
     either = either-is;
     total = total-is-whole;
-    above-room = λ es. above-small (fresh r es) (ws-few es);
-    below-room = λ es. below-small (fresh r es) (ws-few es);
+    exact = whole;
+    taken-back = undone;
+    above-room = λ es. above-small (fresh ws es) (few-fresh es);
+    below-room = λ es. below-small (fresh ws es) (few-fresh es);
     rounded = rounded-is;
   }
+
+-- from the sheet of any rows that were worked out
+pub demand-3-from : (ws : List Row) → AllWorked ws → length ws ≤ mostRows → Demand3 (encode ws) ws
+demand-3-from ws h few = demanded (encode ws) ws (λ i. encode ws) (rows-worked ws h) few
+
+-- from the sheet that the library makes blank, in whatever bytes it was lent
+pub demand-3 : (s : List ℕ) (r : ℕ) → blankRefusal s r ≡ 0 → Demand3 (blankOf s r) (blanks r)
+unfolding blankOf
+demand-3 s r h =
+    demanded (blankOf s r) (blanks r) (rw (eq-eqb (blankRefusal s r) 0 h)) (rows-worked (blanks r) (blanks-worked r)) (rw (length-replicate r _) (makeable s r h .0))
 
 -- An edit touches its row and the totals alone: in any bytes, sheet or not, every other byte is as it was, and so is the length.
 pub elsewhere : (s : List ℕ) (e : Edit) → (length (after s e) ≡ length s) × ((k : ℕ) → Elsewhere s e k → getD (after s e) k 0 ≡ getD s k 0)

@@ -1,30 +1,30 @@
 -- Edits of a sheet, and the rows that they come to (demand 3's own words). Definitions only.
-use Prim.Native.Nat.{ℕ, zero, suc, _+_}
+use mathlib.Core.Path.{_≡_}
+use mathlib.Core.Logic.{_⊎_}
+use Prim.Native.Nat.{ℕ, zero, suc, _+_, _≤_, _<_}
 use mathlib.Core.Bool.{Bool, cond, _&&_}
 use mathlib.Core.List.{List, [], _∷_}
-use lib.Dec.{leb, ltb, eqb}
-use Rattle.laws.specs.Ladder.{when_gives_else_}
-use Rattle.functions.specs.Functions.{last}
-use Rattle.total.specs.Total.{negative, sizeOf}
-use Rattle.sheet.specs.Sheet.{Row, rowOf, valueOf}
-use Rattle.sheet.specs.Calls.{editRefusal, editOf}
+use lib.Dec.{eqb}
+use lib.ListN.{length, replicate}
+use Rattle.answer.specs.Numbers.{last}
+use Rattle.ledger.specs.Sheet.{Row, blankRow, rowPlace, negativeIn, sizeIn}
+use Rattle.ledger.specs.Calls.{rowsIn, rungs}
+use Rattle.sheet.specs.declared.Entry.{Entry}
+use Rattle.sheet.specs.Edit.{rowOf, editRefusal, editOf}
 
 -- what a caller hands to `sheet::edit`
 pub record Edit : Type 0 where
   pub row : ℕ
-  pub function : ℕ
-  pub a : ℕ
-  pub b : ℕ
-  pub c : ℕ
+  pub entry : Entry
 
 -- ---- what the calls do: their contracts' definitions
 
 -- the number that the call answers, and the bytes after it
 abbrev pub answer : List ℕ → Edit → ℕ
-answer s e = editRefusal s (e .row) (e .function)
+answer s e = editRefusal s (e .row) (e .entry .function)
 
 abbrev pub after : List ℕ → Edit → List ℕ
-after s e = editOf s (e .row) (e .function) (e .a) (e .b) (e .c)
+after s e = editOf s (e .row) (e .entry)
 
 -- after a list of edits, first to last
 unfoldable pub run : List ℕ → List Edit → List ℕ
@@ -34,42 +34,58 @@ run s (e ∷ es) = run (after s e) es
 -- ---- what they should come to
 
 -- the answer in a sheet of r rows: 8, 9, or accepted
-unfoldable pub answerIn : ℕ → ℕ → ℕ → ℕ
-answerIn r i f =
-    when leb r i gives 8 else
-    when ltb last f gives 9 else
-    0
+abbrev pub answerIn : ℕ → Edit → ℕ
+answerIn r e = rungs r (e .row) (e .entry .function) 0
 
 unfoldable pub accepted : ℕ → Edit → Bool
-accepted r e = eqb (answerIn r (e .row) (e .function)) 0
-
--- the last accepted edit of row i, or d where there is none
-unfoldable pub lastOf : ℕ → ℕ → Edit → List Edit → Edit
-lastOf r i d [] = d
-lastOf r i d (e ∷ es) = lastOf r i (cond (accepted r e && eqb (e .row) i) e d) es
-
--- a row that was never edited is as if it had been cleared
-abbrev pub cleared : ℕ → Edit
-cleared i = record { row = i; function = 0; a = 0; b = 0; c = 0 }
+accepted r e = eqb (answerIn r e) 0
 
 -- the row that an edit works out
 abbrev pub worked : Edit → Row
-worked e = rowOf (e .function) (e .a) (e .b) (e .c)
+worked e = rowOf (e .entry)
 
--- rows i, i + 1, .. worked out afresh, k of them
-unfoldable pub freshFrom : ℕ → ℕ → ℕ → List Edit → List Row
-freshFrom r i zero es = []
-freshFrom r i (suc k) es = worked (lastOf r i (cleared i) es) ∷ freshFrom r (suc i) k es
+-- row i of r: worked out afresh from its last accepted edit; w where there is none
+unfoldable pub lastRow : ℕ → ℕ → Row → List Edit → Row
+lastRow r i w [] = w
+lastRow r i w (e ∷ es) = lastRow r i (cond (accepted r e && eqb (e .row) i) (worked e) w) es
 
-abbrev pub fresh : ℕ → List Edit → List Row
-fresh r es = freshFrom r 0 r es
+-- rows i, i + 1, .. of r
+unfoldable pub freshFrom : ℕ → ℕ → List Row → List Edit → List Row
+freshFrom r i [] es = []
+freshFrom r i (w ∷ ws) es = lastRow r i w es ∷ freshFrom r (suc i) ws es
 
--- ---- the total as a whole number: the finite first answers above zero, and below, in units of 2^-1074
+-- the rows ws after these edits
+abbrev pub fresh : List Row → List Edit → List Row
+fresh ws es = freshFrom (length ws) 0 ws es
+
+-- ---- the rows that a sheet starts with
+
+-- r blank rows: the sheet that the library makes
+abbrev pub blanks : ℕ → List Row
+blanks r = replicate r blankRow
+
+-- a row that some entry of a known function gives
+pub record Worked (w : Row) : Type 0 where
+  pub entry : Entry
+  pub known : entry .function ≤ last
+  pub is : w ≡ rowOf entry
+
+abbrev pub AllWorked : List Row → Type 0
+AllWorked [] = Unit {0}
+AllWorked (w ∷ ws) = Worked w × AllWorked ws
+
+-- ---- the total as a whole number: the rows' weights above zero, and below, in units of 2^-1074
 
 unfoldable pub above : List Row → ℕ
 above [] = 0
-above (w ∷ ws) = cond (negative (valueOf w)) 0 (sizeOf (valueOf w)) + above ws
+above (w ∷ ws) = cond (negativeIn w) 0 (sizeIn w) + above ws
 
 unfoldable pub below : List Row → ℕ
 below [] = 0
-below (w ∷ ws) = cond (negative (valueOf w)) (sizeOf (valueOf w)) 0 + below ws
+below (w ∷ ws) = cond (negativeIn w) (sizeIn w) 0 + below ws
+
+-- ---- the bytes that an edit leaves alone
+
+-- place k is before the totals, and before or after the edit's row
+abbrev pub Elsewhere : List ℕ → Edit → ℕ → Type 0
+Elsewhere s e k = (k < rowPlace (rowsIn s)) × ((k < rowPlace (e .row)) ⊎ (rowPlace (e .row) + 48 ≤ k))

@@ -14,8 +14,10 @@ use Rattle.line.specs.declared.Number.{Number}
 use Rattle.line.specs.declared.Number.the-variants.{Value, Not}
 use Rattle.line.specs.declared.Line.{Line}
 use Rattle.line.specs.declared.Line.the-variants.{Edit, Malformed}
-use Rattle.sheet.specs.Sheet.{sizeFor}
-use Rattle.sheet.specs.Calls.{blankRefusal, blankOf, editRefusal, editOf}
+use Rattle.ledger.specs.Sheet.{mostRows, sizeFor}
+use Rattle.ledger.specs.Calls.{blankRefusal, blankOf}
+use Rattle.sheet.specs.Edit.{editRefusal, editOf}
+use Rattle.engine.specs.Run.{entry}
 use Rattle.engine.specs.Machine.{held, between, onPart, countLine, editLine}
 
 -- ---- the row count
@@ -25,15 +27,15 @@ module _ (k : ℕ) (m : List ℕ) {x y : Number} (read : x ≡ y) where
   unfolding countLine
   count-none e = rw (← read, e) refl
 
-  pub count-many : (r : ℕ) → x ≡ Value r → 1024 < r → held (between k 0 true) m ≡ countLine k m y
+  pub count-many : (r : ℕ) → x ≡ Value r → mostRows < r → held (between k 0 true) m ≡ countLine k m y
   unfolding countLine
-  count-many r e h = rw (← read, e) (simp (lt-ltb 1024 r h))
+  count-many r e h = rw (← read, e) (simp (lt-ltb mostRows r h))
 
-  pub count-made : (r q : ℕ) {new : List ℕ} → x ≡ Value r → r ≤ 1024
-      → q ≡ blankRefusal (take (sizeFor r - 0) m) r → new ≡ blankOf (take (sizeFor r - 0) m) r
-      → held (between k (sizeFor r) (not (eqb q 0))) (new ++ drop (sizeFor r - 0) m) ≡ countLine k m y
+  pub count-made : (r q n : ℕ) {new : List ℕ} → x ≡ Value r → r ≤ mostRows → n ≡ sizeFor r
+      → q ≡ blankRefusal (take (n - 0) m) r → new ≡ blankOf (take (n - 0) m) r
+      → held (between k n (not (eqb q 0))) (new ++ drop (n - 0) m) ≡ countLine k m y
   unfolding countLine onPart
-  count-made r q e h eq en = rw (← read, e, eq, en) (simp (le-ltb 1024 r h, sub-zero))
+  count-made r q n e h size eq en = rw (← read, e, eq, en, size) (simp (le-ltb mostRows r h, sub-zero))
 
 -- ---- an edit
 
@@ -57,7 +59,7 @@ module _ (k size : ℕ) (m : List ℕ) {x y : Line} (read : x ≡ y) where
   edit-none e = rw (← read, e) refl
 
   pub edit-made : (row f a b c n q : ℕ) {new : List ℕ} → x ≡ Edit row f a b c → n ≡ min size (length m)
-      → q ≡ editRefusal (take (n - 0) m) row f → new ≡ editOf (take (n - 0) m) row f a b c
+      → q ≡ editRefusal (take (n - 0) m) row f → new ≡ editOf (take (n - 0) m) row (entry f a b c)
       → held (between k size (not (eqb q 0))) (new ++ drop (n - 0) m) ≡ editLine k size m y
   unfolding editLine onPart
   edit-made row f a b c n q e l eq en = rw (← read, e, eq, en) (rw (sub-zero n, part-taken m size n l, part-left m size n l) refl)

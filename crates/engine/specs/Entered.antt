@@ -6,53 +6,21 @@ use native.Mathlib.Omega.{arith}
 use mathlib.Core.Bool.{Bool, true, false, cond}
 use mathlib.Core.List.{List, [], _∷_, _++_, append-assoc, append-nil}
 use lib.Dec.{eqb}
+use lib.ListN.{length-replicate}
 use borrow.Author.Tests.{le-ltb, eq-eqb, ne-eqb}
 use Rattle.laws.specs.Ladder.{when_gives_else_}
 use Rattle.line.specs.Line.{decimalOf, cut, lineOf}
-use Rattle.sheet.specs.Sheet.{sizeFor, encode}
-use Rattle.sheet.specs.Calls.{blankRefusal, blankOf}
-use Rattle.demands.specs.Edits.{Edit, answer, after, run, answerIn, accepted, fresh}
+use Rattle.ledger.specs.Sheet.{mostRows, sizeFor, blankRow, encode}
+use Rattle.ledger.specs.Calls.{blankRefusal, blankOf}
+use Rattle.demands.specs.Edits.{Edit, answer, after, run, answerIn, accepted, fresh, blanks}
 use Rattle.demands.specs.Demand3.{demand-3}
 use Rattle.page.specs.Text.{decimal}
 use Rattle.page.specs.Page.{pageOf, badLine}
 use Rattle.engine.specs.Run.{Outcome, Start, Sheet, Bad, zeros, countOn, editOn, lineOn, linesOn, linesOf, printed, runOf}
-use Rattle.engine.specs.Holding.{length-zeros}
-use Rattle.engine.specs.Whole.{lines-bad}
-use Rattle.engine.specs.Written.{editText, read-decimal, written, from-decimal, from-less, cut-before, no-end}
-
--- ---- what is entered
-
--- the line of an edit
-abbrev pub textOf : Edit → List ℕ
-textOf e = editText (e .row) (e .function) (e .a) (e .b) (e .c)
-
--- lines of edits, each with its line end
-unfoldable pub editLines : List Edit → List ℕ
-editLines [] = []
-editLines (e ∷ es) = textOf e ++ (10 ∷ editLines es)
-
--- the row count, and the edits
-unfoldable pub sheetText : ℕ → List Edit → List ℕ
-sheetText r es = decimal r ++ (10 ∷ editLines es)
-
--- an edit's numbers fit their fields
-pub record Fits (e : Edit) : Type 0 where
-  pub row : e .row < 2 ^ 32
-  pub function : e .function < 2 ^ 8
-  pub a : e .a < 2 ^ 64
-  pub b : e .b < 2 ^ 64
-  pub c : e .c < 2 ^ 64
-
-abbrev pub AllFit : List Edit → Type 0
-AllFit [] = Unit {0}
-AllFit (e ∷ es) = Fits e × AllFit es
-
--- the number of the first line that is refused, the first edit's being k; 0 where there is none
-unfoldable pub refusedLine : ℕ → ℕ → List Edit → ℕ
-refusedLine r k [] = 0
-refusedLine r k (e ∷ es) =
-    when accepted r e gives refusedLine r (suc k) es else
-    k
+use Rattle.engine.specs.Input.{textOf, editLines, sheetText, AllFit, Fits, refusedLine}
+use Rattle.engine.specs.laws.Holding.{length-zeros}
+use Rattle.engine.specs.laws.Whole.{lines-bad}
+use Rattle.engine.specs.laws.Written.{read-decimal, written, from-decimal, from-less, cut-before, no-end}
 
 -- ---- its lines
 
@@ -64,7 +32,7 @@ lines-edits : (es : List Edit) → cut 10 [] (editLines es) ≡ texts es
 unfolding editLines texts cut
 lines-edits [] = refl
 lines-edits (e ∷ es) =
-    cut-before 10 [] (textOf e) (editLines es) (no-end (e .row) (e .function) (e .a) (e .b) (e .c)) ∙ ap (λ (ls : List (List ℕ)). textOf e ∷ ls) (lines-edits es)
+    cut-before 10 [] (textOf e) (editLines es) (no-end (e .row) (e .entry .function) (e .entry .a) (e .entry .b) (e .entry .c)) ∙ ap (λ (ls : List (List ℕ)). textOf e ∷ ls) (lines-edits es)
 
 lines-entered : (r : ℕ) (es : List Edit) → linesOf (sheetText r es) ≡ decimal r ∷ texts es
 unfolding linesOf sheetText
@@ -78,13 +46,16 @@ unfolding run
 run-more s [] e = refl
 run-more s (d ∷ es) e = run-more (after s d) es e
 
-module _ (r : ℕ) (few : r ≤ 1024) where
+module _ (r : ℕ) (few : r ≤ mostRows) where
   z : List ℕ
   z = zeros (sizeFor r)
 
   made : blankRefusal z r ≡ 0
   unfolding blankRefusal z
-  made = simp (le-ltb 1024 r few, eq-eqb _ _ (length-zeros (sizeFor r)))
+  made = simp (le-ltb mostRows r few, eq-eqb _ _ (length-zeros (sizeFor r)))
+
+  refused-as : (done : List Edit) (e : Edit) → answer (run (blankOf z r) done) e ≡ answerIn r e
+  refused-as done e = demand-3 z r made .refusals done e ∙ ap (λ (n : ℕ). answerIn n e) (length-replicate r blankRow)
 
   -- the sheet after the edits so far
   sheet : List Edit → List ℕ
@@ -92,13 +63,13 @@ module _ (r : ℕ) (few : r ≤ 1024) where
 
   counted : countOn (decimalOf (decimal r)) ≡ Sheet (sheet [])
   unfolding countOn sheet run z
-  counted = rw (read-decimal r (omega arith)) (simp (le-ltb 1024 r few, eq-eqb _ 0 made))
+  counted = rw (read-decimal r (omega arith)) (simp (le-ltb mostRows r few, eq-eqb _ 0 made))
 
   one-edit : (k : ℕ) (done : List Edit) (e : Edit) → Fits e → editOn k (sheet done) (lineOf (textOf e)) ≡ cond (accepted r e) (Sheet (sheet (done ++ (e ∷ [])))) (Bad k)
   unfolding editOn accepted sheet z
   one-edit k done e fits =
-      rw (written (e .row) (e .function) (e .a) (e .b) (e .c) (fits .row) (fits .function) (fits .a) (fits .b) (fits .c))
-      (rw (demand-3 z r made .refusals done e, run-more (blankOf z r) done e) refl)
+      rw (written (e .row) (e .entry .function) (e .entry .a) (e .entry .b) (e .entry .c) (fits .row) (fits .function) (fits .a) (fits .b) (fits .c))
+      (rw (refused-as done e, run-more (blankOf z r) done e) refl)
 
   edits : (k : ℕ) (done es : List Edit) → AllFit es → 0 < k
       → printed (linesOn k (Sheet (sheet done)) (texts es)) ≡ cond (eqb (refusedLine r k es) 0) (pageOf (sheet (done ++ es))) (badLine (refusedLine r k es))
@@ -116,8 +87,8 @@ module _ (r : ℕ) (few : r ≤ 1024) where
 
 -- ---- the law
 
-pub entered : (r : ℕ) (es : List Edit) → r ≤ 1024 → AllFit es → let k = refusedLine r 2 es in
-    runOf (sheetText r es) ≡ cond (eqb k 0) (pageOf (encode (fresh r es))) (badLine k)
+pub entered : (r : ℕ) (es : List Edit) → r ≤ mostRows → AllFit es → let k = refusedLine r 2 es in
+    runOf (sheetText r es) ≡ cond (eqb k 0) (pageOf (encode (fresh (blanks r) es))) (badLine k)
 unfolding runOf linesOn lineOn sheet
 entered r es few fits =
     ap (λ (ls : List (List ℕ)). printed (linesOn 1 Start ls)) (lines-entered r es)

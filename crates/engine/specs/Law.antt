@@ -12,7 +12,7 @@ use Rattle.page.specs.Writing.{Put}
 use Rattle.engine.specs.declared.State.{State}
 use Rattle.engine.specs.Run.{joined, zeros, runOf}
 use Rattle.engine.specs.Machine.{Room, room, startOf, feedOf, feedAll, finishOf, printOf, outputOf}
-use Rattle.engine.specs.Whole.{run-law, stop-law}
+use Rattle.engine.specs.laws.Whole.{run-law, stop-law}
 
 -- for fewer than 2^64 bytes, from zeroed memory for the sheet, and whatever the line's 72 bytes hold
 pub program-law : (parts : List (List ℕ)) (line : List ℕ) → length line ≡ 72 → length (joined parts) < 2 ^ 64

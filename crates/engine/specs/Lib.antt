@@ -1,9 +1,8 @@
--- The run as a whole, the machine that makes it byte by byte, and the law that they agree however the input is cut (Law), with why that is so before it.
+-- The run as a whole, the machine that makes it byte by byte, and the laws: however the input is cut they agree (Law), and what is entered is what is
+-- printed (Entered); then why that is so.
 pub mod Run
 pub mod Machine
-pub mod Steps
-pub mod Holding
-pub mod Whole
 pub mod Law
-pub mod Written
+pub mod Input
 pub mod Entered
+pub mod laws

@@ -10,10 +10,12 @@ use Rattle.line.specs.declared.Number.the-variants.{Value, Not}
 use Rattle.line.specs.declared.Line.{Line}
 use Rattle.line.specs.declared.Line.the-variants.{Edit, Malformed}
 use Rattle.line.specs.Line.{decimalOf, lineOf}
-use Rattle.sheet.specs.Sheet.{sizeFor, mostRows}
-use Rattle.sheet.specs.Calls.{blankRefusal, blankOf, editRefusal, editOf}
+use Rattle.ledger.specs.Sheet.{sizeFor, mostRows}
+use Rattle.ledger.specs.Calls.{blankRefusal, blankOf}
+use Rattle.sheet.specs.Edit.{editRefusal, editOf}
 use Rattle.page.specs.Page.{pageOf, badLine}
 use Rattle.engine.specs.declared.State.{State}
+use Rattle.engine.specs.Run.{entry}
 
 -- ---- what a run holds
 
@@ -55,7 +57,7 @@ countLine k m (Value r) =
 unfoldable pub editLine : ℕ → ℕ → List ℕ → Line → Held
 editLine k n m Malformed = held (between k n true) m
 editLine k n m (Edit row function a b c) =
-    held (between k n (not (eqb (editRefusal (take n m) row function) 0))) (onPart n (λ s. editOf s row function a b c) m)
+    held (between k n (not (eqb (editRefusal (take n m) row function) 0))) (onPart n (λ s. editOf s row (entry function a b c)) m)
 
 -- the number of the line that is being read; a run of fewer than 2 ^ 64 bytes never wraps it
 abbrev pub lineNumber : State → ℕ

@@ -9,8 +9,10 @@ use Rattle.line.specs.declared.Number.the-variants.{Value, Not}
 use Rattle.line.specs.declared.Line.{Line}
 use Rattle.line.specs.declared.Line.the-variants.{Edit, Malformed}
 use Rattle.line.specs.Line.{decimalOf, cut, lineOf}
-use Rattle.sheet.specs.Sheet.{sizeFor, mostRows}
-use Rattle.sheet.specs.Calls.{blankRefusal, blankOf, editRefusal, editOf}
+use Rattle.ledger.specs.Sheet.{sizeFor, mostRows}
+use Rattle.ledger.specs.Calls.{blankRefusal, blankOf}
+use Rattle.sheet.specs.Edit.{editRefusal, editOf}
+use Rattle.sheet.specs.declared.Entry.{Entry}
 use Rattle.page.specs.Page.{pageOf, badLine}
 
 -- an input that is read in parts
@@ -39,11 +41,15 @@ countOn (Value r) =
     when eqb (blankRefusal (zeros (sizeFor r)) r) 0 gives Sheet (blankOf (zeros (sizeFor r)) r) else
     Bad 1
 
+-- what an edit's line enters
+abbrev pub entry : ℕ → ℕ → ℕ → ℕ → Entry
+entry f a b c = record { function = f; a = a; b = b; c = c }
+
 -- an edit of the sheet s, as line k: bad where it is malformed or the call is refused
 unfoldable pub editOn : ℕ → List ℕ → Line → Outcome
 editOn k s Malformed = Bad k
 editOn k s (Edit row function a b c) =
-    when eqb (editRefusal s row function) 0 gives Sheet (editOf s row function a b c) else
+    when eqb (editRefusal s row function) 0 gives Sheet (editOf s row (entry function a b c)) else
     Bad k
 
 -- one more line, as line k: the first is the row count, and after a bad one nothing more is read

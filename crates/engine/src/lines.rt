@@ -2,6 +2,7 @@
 use crate::State;
 use line::Line;
 use line::Number;
+use sheet::Entry;
 ghost use mathlib.Core.Path.{_≡_};
 ghost use Prim.Native.Nat.{min};
 ghost use lib.ListN.{length};
@@ -42,8 +43,8 @@ fn count_line(k: u64, s: &[u8], sheet: &mut [u8]) -> State
     if 1024 < rows {
         return between(k, 0, true);
     }
-    let n = 328 + 48 * (rows as usize);
-    let refusal = sheet::make_blank(&mut sheet[0..n], rows as u32);
+    let n = ledger::size_for(rows as u32);
+    let refusal = ledger::make_blank(&mut sheet[0..n], rows as u32);
     between(k, n, refusal != 0)
 }
 
@@ -62,7 +63,7 @@ fn edit_line(k: u64, size: usize, s: &[u8], sheet: &mut [u8]) -> State
         return between(k, size, true);
     };
     let n = least(size, sheet.len());
-    let refusal = sheet::edit(&mut sheet[0..n], row, function, a, b, c);
+    let refusal = sheet::edit(&mut sheet[0..n], row, Entry { function, a, b, c });
     between(k, size, refusal != 0)
 }
 

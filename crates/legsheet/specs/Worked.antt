@@ -3,18 +3,20 @@ use mathlib.Core.Path.{_≡_, refl}
 use mathlib.Core.List.{_++_}
 use lib.Ieee.{isNan, ofBits, toBits, mul, lt, le, eq, ne, neg, sub, round}
 use Rattle.laws.specs.Ascii.{ascii}
+use Rattle.answer.specs.Numbers.{stored}
 use Rattle.answer.specs.Answer.{refusalOf, firstOf, secondOf}
 use Rattle.legendre.specs.Domain.{byDomain}
 use Rattle.legendre.specs.Ellipke.{ellipkeOf}
-use Rattle.incomplete.specs.Settle.{handedOf}
-use Rattle.incomplete.specs.Ellippi.{ellippiOf}
-use Rattle.incomplete.specs.Ellipeinc.{itselfOf, ellipeincOf}
+use Rattle.answer.specs.Settle.{handedOf}
+use Rattle.ellippi.specs.Ellippi.{ellippiOf}
+use Rattle.ellipeinc.specs.Ellipeinc.{itselfOf, ellipeincOf}
 use Rattle.functions.specs.Functions.{usedOf, evaluateOf}
-use Rattle.total.specs.Total.{N, Half, signed, negative, sizeOf, unitsOf, addOf, takeOf, roundTotal}
+use Rattle.total.specs.Total.{N, Half, complement, negative, sizeOf, roundTotal}
 use Rattle.line.specs.Line.{digitOf, spellOf, decimalOf, patternOf, onto, cut, fieldsOf, given, editFrom, lineOf}
-use Rattle.sheet.specs.Bytes.{bytes, number, fields, read}
-use Rattle.sheet.specs.Sheet.{entries, rowBytes, functionIn, refusalIn, firstIn, keep, answered, rowOf, kindOf, classOf, valueOf, sound, totals, count, sum, flat, encode}
-use Rattle.sheet.specs.Calls.{rowsIn, rowIn, countsIn, totalIn, equal, isSheet, plus, damaged, totalRefusal, rowRefusal, editRefusal, blankRefusal, blankOf, recount, edited, editOf, readOf, totalOf, countOf}
+use Rattle.ledger.specs.Bytes.{bytes, number, fields, read}
+use Rattle.ledger.specs.Sheet.{entries, rowBytes, functionIn, refusalIn, firstIn, soundOf, kindOf, classOf, valueOf, sizeIn, unitsIn, retotal, totals, count, sum, flat, encode}
+use Rattle.ledger.specs.Calls.{rowsIn, rowIn, countsIn, totalIn, equal, isSheet, plus, miscounted, damaged, rungs, totalRefusal, rowRefusal, blankRefusal, blankOf, recount, revised, edited, readOf, totalOf, countOf}
+use Rattle.sheet.specs.Edit.{keep, keptOf, answered, rowOf, editRefusal, editOf}
 use Rattle.page.specs.Text.{glyphOf, digitsOf, decimal, pattern}
 use Rattle.page.specs.Page.{answerAt, headText, answersText, rowText, rowLine, rowLines, countFields, countsLine, totalLine, pageOf}
 use Rattle.engine.specs.Run.{linesOf, zeros, countOn, editOn, lineOn, linesOn, printed, runOf}
@@ -31,5 +33,5 @@ pub worked : runOf (
     ++ ascii "3 5 0 4000000000000000 0000000000000000\n"
     ++ ascii "counts 0 2 1 0 1\n"
     ++ ascii "total 4000000000000000\n"
-unfolding isNan ofBits toBits mul lt le eq ne neg sub round refusalOf firstOf secondOf byDomain ellipkeOf handedOf ellippiOf itselfOf ellipeincOf usedOf evaluateOf N Half signed negative sizeOf unitsOf addOf takeOf roundTotal digitOf spellOf decimalOf patternOf onto cut fieldsOf given editFrom lineOf bytes number fields read entries rowBytes functionIn refusalIn firstIn keep answered rowOf kindOf classOf valueOf sound totals count sum flat encode rowsIn rowIn countsIn totalIn equal isSheet plus damaged totalRefusal rowRefusal editRefusal blankRefusal blankOf recount edited editOf readOf totalOf countOf glyphOf digitsOf decimal pattern answerAt headText answersText rowText rowLine rowLines countFields countsLine totalLine pageOf linesOf zeros countOn editOn lineOn linesOn printed runOf
+unfolding isNan ofBits toBits mul lt le eq ne neg sub round refusalOf firstOf secondOf byDomain ellipkeOf handedOf ellippiOf itselfOf ellipeincOf usedOf evaluateOf N Half complement negative sizeOf roundTotal digitOf spellOf decimalOf patternOf onto cut fieldsOf given editFrom lineOf bytes number fields read entries rowBytes functionIn refusalIn firstIn soundOf stored keep keptOf answered rowOf kindOf classOf valueOf sizeIn unitsIn retotal totals count sum flat encode rowsIn rowIn countsIn totalIn equal isSheet plus miscounted damaged rungs totalRefusal rowRefusal editRefusal blankRefusal blankOf recount revised edited editOf readOf totalOf countOf glyphOf digitsOf decimal pattern answerAt headText answersText rowText rowLine rowLines countFields countsLine totalLine pageOf linesOf zeros countOn editOn lineOn linesOn printed runOf
 worked = refl

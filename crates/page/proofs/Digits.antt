@@ -7,7 +7,8 @@ use mathlib.Core.List.{List, [], _∷_}
 use lib.ListN.{length}
 use lib.Dec.{ltb}
 use Rattle.page.specs.Text.{glyphOf, digitsOf}
-use Rattle.page.specs.Writing.{Put, put-none, put-both}
+use Rattle.page.specs.Writing.{Put}
+use Rattle.page.specs.laws.Writing.{put-none, put-both}
 
 module _ (all : Bool) (base n : ℕ) (out : List ℕ) (at : ℕ) where
   pub no-digits : (k : ℕ) → k ≡ 0 → Put out out at at (digitsOf all base k n)

@@ -4,10 +4,11 @@ use Prim.Native.Nat.{ℕ, _+_, _≤_}
 use native.Mathlib.Numerals.{add-one}
 use mathlib.Core.List.{List, _++_}
 use lib.ListN.{length}
-use Rattle.sheet.specs.Calls.{countOf}
+use Rattle.ledger.specs.Calls.{countOf}
 use Rattle.page.specs.Text.{decimal, space}
 use Rattle.page.specs.Page.{rowLine, rowLines, countFields}
-use Rattle.page.specs.Writing.{Put, put-none, put-both}
+use Rattle.page.specs.Writing.{Put}
+use Rattle.page.specs.laws.Writing.{put-none, put-both}
 
 module _ (old s : List ℕ) (from : ℕ) where
   pub no-rows : Put old old from from (rowLines s 0)

@@ -7,7 +7,7 @@ use mathlib.Core.List.{List}
 use lib.ListN.{length, drop, getD}
 use lib.Seq.{drop-cons, drop-length}
 use lib.Dec.{lit≤}
-use Rattle.sheet.specs.Bytes.{number}
+use Rattle.ledger.specs.Bytes.{number}
 
 pub no-bytes : (s : List ℕ) → 0 ≡ number (drop (length s) s)
 unfolding number

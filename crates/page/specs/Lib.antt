@@ -1,5 +1,5 @@
--- What the contracts cite, and what is proved of it.
+-- What the contracts cite, then the laws of it.
 pub mod Text
 pub mod Page
-pub mod Digits
 pub mod Writing
+pub mod laws

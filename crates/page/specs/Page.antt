@@ -6,9 +6,9 @@ use lib.Dec.{ltb, eqb}
 use lib.Ieee.{binary64, toBits}
 use Rattle.laws.specs.Ascii.{ascii}
 use Rattle.laws.specs.Ladder.{when_gives_else_}
-use Rattle.sheet.specs.Bytes.{number}
-use Rattle.sheet.specs.Sheet.{sizeFor, mostRows}
-use Rattle.sheet.specs.Calls.{rowsIn, readOf, totalOf, countOf}
+use Rattle.ledger.specs.Bytes.{number}
+use Rattle.ledger.specs.Sheet.{sizeFor, mostRows}
+use Rattle.ledger.specs.Calls.{rowsIn, readOf, totalOf, countOf}
 use Rattle.page.specs.Text.{decimal, pattern, space, end}
 
 -- ---- a row: its number, its function and its refusal number, and its two answers

@@ -10,7 +10,7 @@ ghost use mathlib.Core.Path.{_≡_};
 ghost use mathlib.Core.List.{_++_};
 ghost use Prim.Native.Nat.{_+_, _*_, _≤_};
 ghost use lib.ListN.{length};
-ghost use Rattle.sheet.specs.Calls.{rowsIn};
+ghost use Rattle.ledger.specs.Calls.{rowsIn};
 ghost use Rattle.page.specs.Text.{decimal, end};
 ghost use Rattle.page.specs.Page.{rowLines, countFields, countsLine, totalLine, pageOf, badLine, failedLine};
 ghost use Rattle.page.specs.Writing.{Put};
@@ -45,7 +45,7 @@ fn put_counts(out: &mut [u8], from: usize, sheet: &[u8]) -> usize
     let mut class: u8 = 0;
     let mut at = from;
     while class < 4 {
-        let n = sheet::count(sheet, class);
+        let n = ledger::count(sheet, class);
         at = put_decimal(out, at, 10, n as u64, 32);
         class += 1;
     }
@@ -59,7 +59,7 @@ fn put_counts_line(out: &mut [u8], at: usize, sheet: &[u8]) -> usize
 {
     let a = put_bytes(out, at, b"counts ");
     let b = put_counts(out, a, sheet);
-    let n = sheet::count(sheet, 4);
+    let n = ledger::count(sheet, 4);
     put_decimal(out, b, 10, n as u64, 10)
 }
 
@@ -69,19 +69,16 @@ fn put_total_line(out: &mut [u8], at: usize, sheet: &[u8]) -> usize
     ensures { λ r. ⌜ r ≤ at + 23 ⌝ }
 {
     let a = put_bytes(out, at, b"total ");
-    let total = bits::to_pattern(sheet::total(sheet));
+    let total = bits::to_pattern(ledger::total(sheet));
     put_pattern(out, a, total, 10)
 }
 
-// As many rows as the sheet's length has room for.
+// No more rows than a sheet may have.
 fn row_count(sheet: &[u8]) -> u32
     requires { ⌜ length (now sheet) ≤ 49480 ⌝ }
     ensures { λ r. ⌜ (r ≡ rowsIn (now (sheet .entry))) × (r ≤ 1024) ⌝ }
 {
-    if sheet.len() < 328 {
-        return 0;
-    }
-    ((sheet.len() - 328) / 48) as u32
+    ledger::rows_in(sheet) as u32
 }
 
 fn put_sheet(out: &mut [u8], sheet: &[u8]) -> usize

@@ -4,7 +4,7 @@ use crate::text::put_pattern;
 ghost use mathlib.Core.Path.{_≡_};
 ghost use Prim.Native.Nat.{_+_, _≤_, _<_};
 ghost use lib.ListN.{length};
-ghost use Rattle.sheet.specs.Bytes.{number};
+ghost use Rattle.ledger.specs.Bytes.{number};
 ghost use Rattle.page.specs.Page.{headText, answersText, rowText, rowLine};
 ghost use Rattle.page.specs.Writing.{Put};
 
@@ -67,7 +67,7 @@ pub(crate) fn put_row(out: &mut [u8], at: usize, sheet: &[u8], i: u32) -> usize
     ensures { λ r. ⌜ Put (now (out .entry)) (now (out .exit)) at r (rowLine (now (sheet .entry)) i) ⌝ }
     ensures { λ r. ⌜ r ≤ at + 48 ⌝ }
 {
-    let row = sheet::read_row(sheet, i);
+    let row = ledger::read_row(sheet, i);
     if row.len() == 48 {
         return put_text(out, at, i, row);
     }

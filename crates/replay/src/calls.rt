@@ -3,6 +3,7 @@ use super::script::byte;
 use super::script::hex;
 use super::script::same;
 use super::script::word;
+use sheet::Entry;
 ghost use Prim.Native.Nat.{_≤_};
 ghost use lib.ListN.{length};
 
@@ -35,27 +36,25 @@ fn checksum(s: &[u8]) -> u64 {
 }
 
 fn make(line: &[u8], sheet: &mut [u8]) -> bool {
-    sheet::make_blank(sheet, word(line, 2)) == byte(line, 11)
+    ledger::make_blank(sheet, word(line, 2)) == byte(line, 11)
 }
 
 fn edit(line: &[u8], sheet: &mut [u8]) -> bool {
-    sheet::edit(
-        sheet,
-        word(line, 2),
-        byte(line, 11),
-        hex(line, 14, 16),
-        hex(line, 31, 16),
-        hex(line, 48, 16),
-    )
-        == byte(line, 65)
+    let entry = Entry {
+        function: byte(line, 11),
+        a: hex(line, 14, 16),
+        b: hex(line, 31, 16),
+        c: hex(line, 48, 16),
+    };
+    sheet::edit(sheet, word(line, 2), entry) == byte(line, 65)
 }
 
 fn read(line: &[u8], sheet: &[u8]) -> bool {
     let row = word(line, 2);
-    if sheet::row_refusal(sheet, row) != byte(line, 11) {
+    if ledger::row_refusal(sheet, row) != byte(line, 11) {
         return false;
     }
-    let bytes = sheet::read_row(sheet, row);
+    let bytes = ledger::read_row(sheet, row);
     if bytes.len() > 48 {
         return false;
     }
@@ -63,10 +62,10 @@ fn read(line: &[u8], sheet: &[u8]) -> bool {
 }
 
 fn total(line: &[u8], sheet: &[u8]) -> bool {
-    if sheet::total_refusal(sheet) != byte(line, 2) {
+    if ledger::total_refusal(sheet) != byte(line, 2) {
         return false;
     }
-    bits::to_pattern(sheet::total(sheet)) == hex(line, 5, 16)
+    bits::to_pattern(ledger::total(sheet)) == hex(line, 5, 16)
 }
 
 // Whether the answer is right; a line that is no call is wrong.
@@ -98,7 +97,7 @@ pub(crate) fn call(line: &[u8], sheet: &mut [u8]) -> bool {
         return total(line, sheet);
     }
     if c == b'N' {
-        return sheet::count(sheet, byte(line, 2)) == word(line, 5);
+        return ledger::count(sheet, byte(line, 2)) == word(line, 5);
     }
     if c == b'S' {
         return checksum(sheet) == hex(line, 2, 16);

@@ -1,7 +1,3 @@
--- The sheet: what the contracts cite, then the laws of it.
-pub mod Bytes
-pub mod Sheet
-pub mod Calls
-pub mod Fields
-pub mod Refusals
-pub mod Stored
+-- Edits: what the contracts cite, then the laws of it.
+pub mod Edit
+pub mod laws

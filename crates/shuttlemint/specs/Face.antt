@@ -1,5 +1,5 @@
 -- What goes over the face beside the sheet's own calls. Definitions only.
-use Prim.Native.Nat.{ℕ, _+_, _*_}
+use Prim.Native.Nat.{ℕ}
 use mathlib.Core.List.{List, [], _∷_}
 use lib.Dec.{eqb}
 use lib.ListN.{length}
@@ -7,7 +7,8 @@ use lib.Ieee.{binary64, toBits}
 use Rattle.laws.specs.Ladder.{when_gives_else_}
 use Rattle.answer.specs.Answer.{refusalOf, firstOf, secondOf}
 use Rattle.functions.specs.Functions.{evaluateOf}
-use Rattle.sheet.specs.Calls.{rowRefusal}
+use Rattle.ledger.specs.Sheet.{rowPlace}
+use Rattle.ledger.specs.Calls.{rowRefusal}
 
 -- 7 for an `out` of n numbers, where n is not 2
 unfoldable pub evaluateRefusal : ℕ → ℕ → ℕ → ℕ → ℕ → ℕ
@@ -21,4 +22,4 @@ evaluateOut out f a b c =
 
 -- where row i starts; the sheet's length where it can't be read
 unfoldable pub rowPlaceOf : List ℕ → ℕ → ℕ
-rowPlaceOf s i = when eqb (rowRefusal s i) 0 gives 32 + 48 * i else length s
+rowPlaceOf s i = when eqb (rowRefusal s i) 0 gives rowPlace i else length s

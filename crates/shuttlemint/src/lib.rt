@@ -1,5 +1,6 @@
 // The face for C and Rust. A float goes over as its bit pattern, so that every NaN pattern may; a slice as a pointer and a length.
 // No function asks anything of its caller: each refuses instead, by document 01's numbers.
+use sheet::Entry;
 ghost use mathlib.Core.Path.{_≡_};
 ghost use lib.Ieee.{toBits, ofBits, binary64};
 ghost use lib.ListN.{length, take, drop};
@@ -11,7 +12,8 @@ ghost use Rattle.answer.specs.Answer.{valueOf};
 ghost use Rattle.angle.specs.Sine.{sineOf};
 ghost use Rattle.angle.specs.Cosine.{cosineOf};
 ghost use Rattle.logarithm.specs.Logarithm.{logarithmOf};
-ghost use Rattle.sheet.specs.Calls.{blankRefusal, blankOf, editRefusal, editOf, rowRefusal, readOf, totalRefusal, totalOf};
+ghost use Rattle.ledger.specs.Calls.{blankRefusal, blankOf, rowRefusal, readOf, classIn, totalRefusal, totalOf, countOf};
+ghost use Rattle.sheet.specs.Edit.{editRefusal, editOf};
 ghost use Rattle.shuttlemint.specs.Face.{evaluateRefusal, evaluateOut, rowPlaceOf};
 
 #[no_mangle]
@@ -107,14 +109,14 @@ pub extern "C" fn sm_evaluate(function: u8, a: u64, b: u64, c: u64, out: &mut [u
 pub extern "C" fn sm_blank(sheet: &mut [u8], rows: u32) -> u8
     ensures { λ r. ⌜ (r ≡ blankRefusal (now (sheet .entry)) rows) × (now (sheet .exit) ≡ blankOf (now (sheet .entry)) rows) ⌝ }
 {
-    sheet::make_blank(sheet, rows)
+    ledger::make_blank(sheet, rows)
 }
 
 #[no_mangle]
 pub extern "C" fn sm_edit(sheet: &mut [u8], row: u32, function: u8, a: u64, b: u64, c: u64) -> u8
-    ensures { λ r. ⌜ (r ≡ editRefusal (now (sheet .entry)) row function) × (now (sheet .exit) ≡ editOf (now (sheet .entry)) row function a b c) ⌝ }
+    ensures { λ r. ⌜ (r ≡ editRefusal (now (sheet .entry)) row function) × (now (sheet .exit) ≡ editOf (now (sheet .entry)) row (record { function = function; a = a; b = b; c = c })) ⌝ }
 {
-    sheet::edit(sheet, row, function, a, b, c)
+    sheet::edit(sheet, row, Entry { function, a, b, c })
 }
 
 // Where the row's own 48 bytes start in the lent sheet; its length where the read is refused, so that no byte stands there.
@@ -122,10 +124,10 @@ pub extern "C" fn sm_edit(sheet: &mut [u8], row: u32, function: u8, a: u64, b: u
 pub extern "C" fn sm_row_at(sheet: &[u8], row: u32) -> usize
     ensures { λ r. ⌜ r ≡ rowPlaceOf (now (sheet .entry)) row ⌝ }
 {
-    if sheet::row_refusal(sheet, row) != 0 {
+    if ledger::row_refusal(sheet, row) != 0 {
         return sheet.len();
     }
-    32 + 48 * (row as usize)
+    ledger::row_place(row)
 }
 
 // 7 or 8, or 0: the row can be read.
@@ -133,7 +135,23 @@ pub extern "C" fn sm_row_at(sheet: &[u8], row: u32) -> usize
 pub extern "C" fn sm_row_refusal(sheet: &[u8], row: u32) -> u8
     ensures { λ r. ⌜ r ≡ rowRefusal (now (sheet .entry)) row ⌝ }
 {
-    sheet::row_refusal(sheet, row)
+    ledger::row_refusal(sheet, row)
+}
+
+// The row's class, as `sm_count` numbers them; 5 where a NaN first answer leaves it none, or the row can't be read.
+#[no_mangle]
+pub extern "C" fn sm_row_class(sheet: &[u8], row: u32) -> usize
+    ensures { λ r. ⌜ r ≡ classIn (now (sheet .entry)) row ⌝ }
+{
+    ledger::row_class(sheet, row)
+}
+
+// How many rows are blank (0), finite (1), +∞ (2), -∞ (3) or refused (4), by the sheet's own counts; 0 for another class or where `sm_total_refusal` is not 0.
+#[no_mangle]
+pub extern "C" fn sm_count(sheet: &[u8], class: u8) -> u32
+    ensures { λ r. ⌜ r ≡ countOf (now (sheet .entry)) class ⌝ }
+{
+    ledger::count(sheet, class)
 }
 
 // The pattern of the total rounded once; +0 where `sm_total_refusal` is not 0.
@@ -141,7 +159,7 @@ pub extern "C" fn sm_row_refusal(sheet: &[u8], row: u32) -> u8
 pub extern "C" fn sm_total(sheet: &[u8]) -> u64
     ensures { λ r. ⌜ r ≡ toBits binary64 (totalOf (now (sheet .entry))) ⌝ }
 {
-    bits::to_pattern(sheet::total(sheet))
+    bits::to_pattern(ledger::total(sheet))
 }
 
 // 7, or 0: the bytes are a sheet.
@@ -149,5 +167,5 @@ pub extern "C" fn sm_total(sheet: &[u8]) -> u64
 pub extern "C" fn sm_total_refusal(sheet: &[u8]) -> u8
     ensures { λ r. ⌜ r ≡ totalRefusal (now (sheet .entry)) ⌝ }
 {
-    sheet::total_refusal(sheet)
+    ledger::total_refusal(sheet)
 }

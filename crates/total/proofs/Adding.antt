@@ -8,9 +8,9 @@ use lib.Dec.{lit<, lit≤}
 use lib.Ieee.{Float, neg}
 use lib.Ieee.Scale.{finite}
 use Rattle.bits.specs.Parts.{PartsOf}
-use Rattle.total.specs.Total.{N, val, limbsOf, signed, unitsOf, addOf, takeOf}
-use Rattle.total.specs.Limbs.{val-limbs, limbs-mod}
-use Rattle.total.specs.Units.{units-value, neg-value, units-none, signed-zero}
+use Rattle.total.specs.Total.{N, val, limbsOf, complement, unitsOf, addOf, takeOf}
+use Rattle.total.specs.laws.Limbs.{val-limbs, limbs-mod}
+use Rattle.total.specs.laws.Units.{units-value, neg-value, units-none, complement-zero}
 
 module _ (x : Float) (f s : Bool) (d e : ℕ) (p : PartsOf x f s d e) where
   pub parts-small : (d < 2 ^ 53) × (e ≤ 2045)
@@ -20,25 +20,25 @@ module _ (x : Float) (f s : Bool) (d e : ℕ) (p : PartsOf x f s d e) where
       go true h = let q = p .decoded h in (q .digits, q .scale)
       go false h = let z = p .nothing h in (rw (z .1) (lit< tt), rw (z .2) (lit≤ tt))
 
-  units-are : (signed s (d * 2 ^ e) % N ≡ unitsOf x) × (signed (not s) (d * 2 ^ e) % N ≡ unitsOf (neg x))
+  units-are : (complement s (d * 2 ^ e) % N ≡ unitsOf x) × (complement (not s) (d * 2 ^ e) % N ≡ unitsOf (neg x))
   units-are = go (finite x) refl
     where
-      go : (b : Bool) → finite x ≡ b → (signed s (d * 2 ^ e) % N ≡ unitsOf x) × (signed (not s) (d * 2 ^ e) % N ≡ unitsOf (neg x))
+      go : (b : Bool) → finite x ≡ b → (complement s (d * 2 ^ e) % N ≡ unitsOf x) × (complement (not s) (d * 2 ^ e) % N ≡ unitsOf (neg x))
       go true h =
           let v = p .decoded h .value in
           (sym (units-value x s (d * 2 ^ e) v), sym (units-value (neg x) (not s) (d * 2 ^ e) (neg-value x s (d * 2 ^ e) (2 ^ 1074) v)))
       go false h =
           let n = units-none x h in
           let z : d * 2 ^ e ≡ 0 = ap (λ (k : ℕ). k * 2 ^ e) (p .nothing h .1) ∙ zero-mul (2 ^ e) in
-          (ap (λ (k : ℕ). signed s k % N) z ∙ signed-zero s ∙ sym (n .0), ap (λ (k : ℕ). signed (not s) k % N) z ∙ signed-zero (not s) ∙ sym (n .1))
+          (ap (λ (k : ℕ). complement s k % N) z ∙ complement-zero s ∙ sym (n .0), ap (λ (k : ℕ). complement (not s) k % N) z ∙ complement-zero (not s) ∙ sym (n .1))
 
-  pub added : (t : ℕ) → (t + signed s (d * 2 ^ e)) % N ≡ addOf t x
+  pub added : (t : ℕ) → (t + complement s (d * 2 ^ e)) % N ≡ addOf t x
   unfolding addOf
-  added t = sym (add-mod-mod t (signed s (d * 2 ^ e)) N) ∙ ap (λ (u : ℕ). (t + u) % N) (units-are .0)
+  added t = sym (add-mod-mod t (complement s (d * 2 ^ e)) N) ∙ ap (λ (u : ℕ). (t + u) % N) (units-are .0)
 
-  pub taken : (t : ℕ) → (t + signed (not s) (d * 2 ^ e)) % N ≡ takeOf t x
+  pub taken : (t : ℕ) → (t + complement (not s) (d * 2 ^ e)) % N ≡ takeOf t x
   unfolding takeOf
-  taken t = sym (add-mod-mod t (signed (not s) (d * 2 ^ e)) N) ∙ ap (λ (u : ℕ). (t + u) % N) (units-are .1)
+  taken t = sym (add-mod-mod t (complement (not s) (d * 2 ^ e)) N) ∙ ap (λ (u : ℕ). (t + u) % N) (units-are .1)
 
 -- limbs of a number, said of the number modulo N
 pub held : (l : List ℕ) (n v : ℕ) → l ≡ limbsOf n → n % N ≡ v → (val l ≡ v) × (l ≡ limbsOf v)

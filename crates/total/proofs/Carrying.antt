@@ -7,9 +7,9 @@ use native.Mathlib.Nat.{le-trans, le-of-lt, le-of-eq, le-of-suc-le-suc, not-suc-
 use native.Mathlib.Omega.{arith}
 use lib.ListN.{length, getD, set}
 use lib.Pow.{pow-mono, pow-pos, pow-add, shl-lt, shr-shr}
-use Rattle.total.specs.Total.{val, limbsOf, signed, N}
+use Rattle.total.specs.Total.{val, limbsOf, complement, N}
 use Rattle.total.specs.Carry.{W, Balance}
-use Rattle.total.specs.Limbs.{Fit, W-pow, W-next, W-34, limbs-val, val-limbs, same-mod, same-limbs}
+use Rattle.total.specs.laws.Limbs.{Fit, W-pow, W-next, W-34, limbs-val, val-limbs, same-mod, same-limbs}
 
 -- ---- one limb set
 pub val-set : (l : List ℕ) (i z : ℕ) → i < length l → val (set l i z) + W i * getD l i 0 ≡ val l + W i * z
@@ -36,21 +36,21 @@ pub next : (away : Bool) (l : List ℕ) (t k i y z c : ℕ) → i < length l →
     → Balance away (val (set l i z)) t k (W (i + 1) * c)
 next away l t k i y z c h e b = rw (W-next i) (balanced away (val l) (val (set l i z)) t k (W i) (getD l i 0) y z c (val-set l i z h) e b)
 
-same : (away : Bool) (v t k c : ℕ) → k ≤ N → Balance away v t k (N * c) → v % N ≡ (t + signed away k) % N
-unfolding signed
+same : (away : Bool) (v t k c : ℕ) → k ≤ N → Balance away v t k (N * c) → v % N ≡ (t + complement away k) % N
+unfolding complement
 same true v t k c h b = same-mod v (t + (N - k)) 1 c (omega arith)
 same false v t k c h b = same-mod v (t + k) c 0 (omega arith)
 
-done : (away : Bool) (l : List ℕ) (t k c : ℕ) → length l ≡ 34 → Fit l → k ≤ N → Balance away (val l) t k (N * c) → l ≡ limbsOf (t + signed away k)
-done away l t k c e f h b = limbs-val l e f ∙ same-limbs (val l) (t + signed away k) (same away (val l) t k c h b)
+done : (away : Bool) (l : List ℕ) (t k c : ℕ) → length l ≡ 34 → Fit l → k ≤ N → Balance away (val l) t k (N * c) → l ≡ limbsOf (t + complement away k)
+done away l t k c e f h b = limbs-val l e f ∙ same-limbs (val l) (t + complement away k) (same away (val l) t k c h b)
 
 -- the carry is spent
-pub spent : (away : Bool) (l : List ℕ) (t k i y : ℕ) → length l ≡ 34 → Fit l → k ≤ N → y ≡ 0 → Balance away (val l) t k (W i * y) → l ≡ limbsOf (t + signed away k)
+pub spent : (away : Bool) (l : List ℕ) (t k i y : ℕ) → length l ≡ 34 → Fit l → k ≤ N → y ≡ 0 → Balance away (val l) t k (W i * y) → l ≡ limbsOf (t + complement away k)
 spent away l t k i y e f h z b =
     done away l t k 0 e f h (subst (λ (n : ℕ). Balance away (val l) t k n) (ap (λ (n : ℕ). W i * n) z ∙ mul-zero (W i) ∙ sym (mul-zero N)) b)
 
 -- or it leaves the last limb
-pub gone : (away : Bool) (l : List ℕ) (t k i y : ℕ) → length l ≡ 34 → Fit l → k ≤ N → i ≤ 34 → 34 ≤ i → Balance away (val l) t k (W i * y) → l ≡ limbsOf (t + signed away k)
+pub gone : (away : Bool) (l : List ℕ) (t k i y : ℕ) → length l ≡ 34 → Fit l → k ≤ N → i ≤ 34 → 34 ≤ i → Balance away (val l) t k (W i * y) → l ≡ limbsOf (t + complement away k)
 gone away l t k i y e f h p q b =
     done away l t k y e f h (subst (λ (n : ℕ). Balance away (val l) t k (n * y)) (ap W (le-antisymm p q) ∙ W-34) b)
 
@@ -62,18 +62,18 @@ reach i y h b =
     le-trans a (le-trans (le-of-eq (mul-comm (W i) 0x1_0000_0000_0000_0000 ∙ sym (W-next i))) (le-trans m (le-of-eq W-34)))
 
 -- ---- digits at a place that lies across two limbs
-moved-twice : (away : Bool) (t j k : ℕ) → j + k ≤ N → (t + signed away j + signed away k) % N ≡ (t + signed away (j + k)) % N
-unfolding signed
+moved-twice : (away : Bool) (t j k : ℕ) → j + k ≤ N → (t + complement away j + complement away k) % N ≡ (t + complement away (j + k)) % N
+unfolding complement
 moved-twice true t j k h = same-mod (t + (N - j) + (N - k)) (t + (N - (j + k))) 0 1 (omega arith)
 moved-twice false t j k h = ap (λ (n : ℕ). n % N) (let e : t + j + k ≡ t + (j + k) = omega arith in e)
 
-pub both : (away : Bool) (t j k n : ℕ) (l r : List ℕ) → j + k ≡ n → n ≤ N → l ≡ limbsOf (t + signed away j) → r ≡ limbsOf (val l + signed away k) → r ≡ limbsOf (t + signed away n)
+pub both : (away : Bool) (t j k n : ℕ) (l r : List ℕ) → j + k ≡ n → n ≤ N → l ≡ limbsOf (t + complement away j) → r ≡ limbsOf (val l + complement away k) → r ≡ limbsOf (t + complement away n)
 both away t j k n l r e h a b =
-    b ∙ same-limbs (val l + signed away k) (t + signed away n)
-    (ap (λ (v : ℕ). (v + signed away k) % N) (ap val a ∙ val-limbs (t + signed away j))
-    ∙ mod-add-mod (t + signed away j) N (signed away k)
+    b ∙ same-limbs (val l + complement away k) (t + complement away n)
+    (ap (λ (v : ℕ). (v + complement away k) % N) (ap val a ∙ val-limbs (t + complement away j))
+    ∙ mod-add-mod (t + complement away j) N (complement away k)
     ∙ moved-twice away t j k (rw e h)
-    ∙ ap (λ (m : ℕ). (t + signed away m) % N) e)
+    ∙ ap (λ (m : ℕ). (t + complement away m) % N) e)
 
 pub placed : (d e : ℕ) → d < 2 ^ 53 → W (e / 64) * (d * 2 ^ (e % 64) % 2 ^ 64) + W (e / 64 + 1) * (d / 2 / 2 ^ (63 - e % 64)) ≡ d * 2 ^ e
 placed d e h =

@@ -8,7 +8,7 @@ use lib.ListN.{length, take, getD, set}
 use lib.Seq.{take-all}
 use Rattle.total.specs.Total.{val, N}
 use Rattle.total.specs.Carry.{W}
-use Rattle.total.specs.Limbs.{W-34, W-next, val-next, val-set-next}
+use Rattle.total.specs.laws.Limbs.{W-34, W-next, val-next, val-set-next}
 
 pub val-none : (l : List ℕ) → val (take 0 l) ≡ 0
 unfolding val

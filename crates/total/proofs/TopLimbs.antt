@@ -14,9 +14,9 @@ use lib.Ieee.{round, binary64}
 use Rattle.bits.specs.Rounded.{Kept, roundedOf}
 use Rattle.bits.specs.laws.Keeping.{kept-digits, kept-self, kept-scaled}
 use Rattle.bits.specs.laws.Once.{rounded-kept, rounded-exact, round-shift}
-use Rattle.total.specs.Total.{val, N, Half, limbsOf, signed, roundTotal}
+use Rattle.total.specs.Total.{val, N, Half, limbsOf, complement, roundTotal}
 use Rattle.total.specs.Carry.{W}
-use Rattle.total.specs.Limbs.{Fit, W-pow, W-next, val-below, val-lt, val-limbs, val-next}
+use Rattle.total.specs.laws.Limbs.{Fit, W-pow, W-next, val-below, val-lt, val-limbs, val-next}
 use Rattle.total.proofs.FirstLimbs.{val-none}
 
 fit-take : (l : List ℕ) (n : ℕ) → Fit l → Fit (take n l)
@@ -103,6 +103,6 @@ round-minus l m e f h k =
     less n v p h = omega arith
 
 -- ---- digits turned over, and 1 added
-pub negate : (t v : ℕ) (r : List ℕ) → t + v + 1 ≡ N → r ≡ limbsOf (t + signed false (W 0 * 1)) → r ≡ limbsOf (N - v)
-unfolding signed W
+pub negate : (t v : ℕ) (r : List ℕ) → t + v + 1 ≡ N → r ≡ limbsOf (t + complement false (W 0 * 1)) → r ≡ limbsOf (N - v)
+unfolding complement W
 negate t v r e h = h ∙ ap limbsOf (omega arith)

@@ -1,5 +1,4 @@
--- The total: what the contracts cite, and the laws of it.
+-- The total: what the contracts cite, then the laws of it.
 pub mod Total
-pub mod Limbs
 pub mod Carry
-pub mod Units
+pub mod laws

@@ -28,8 +28,8 @@ unfoldable pub limbsOf : ℕ → List ℕ
 limbsOf n = lowest 34 n
 
 -- a number of units with its sign, in two's complement
-unfoldable pub signed : Bool → ℕ → ℕ
-signed s n = cond s (N - n) n
+unfoldable pub complement : Bool → ℕ → ℕ
+complement s n = cond s (N - n) n
 
 -- a finite f64's sign, and its size in units of 2^-1074: a whole number (`whole` of Units)
 unfoldable pub negative : Float → Bool
@@ -44,7 +44,7 @@ sizeOf (fin s m e) = m * up e * 2 ^ 1074 / down e
 
 -- what a value adds to the total: nothing, where it is NaN or an infinity
 unfoldable pub unitsOf : Float → ℕ
-unitsOf x = signed (negative x) (sizeOf x) % N
+unitsOf x = complement (negative x) (sizeOf x) % N
 
 -- the total t with x added
 unfoldable pub addOf : ℕ → Float → ℕ

@@ -1,7 +1,7 @@
 // 34 limbs of 64 bits, least first: a number modulo 2^2176.
 ghost use mathlib.Core.Path.{_≡_};
 ghost use Prim.Native.Nat.{_+_, _*_, _^_, _≤_, _<_};
-ghost use Rattle.total.specs.Total.{val, limbsOf, signed};
+ghost use Rattle.total.specs.Total.{val, limbsOf, complement};
 ghost use Rattle.total.specs.Carry.{Balance, W};
 
 pub struct Limb {
@@ -43,7 +43,7 @@ fn step(limb: u64, word: u64, away: bool) -> Limb
 // above the last carry are not touched.
 pub(crate) fn ripple(limbs: [u64; 34], at: usize, word: u64, away: bool) -> [u64; 34]
     requires { ⌜ at < 34 ⌝ }
-    ensures { λ r. ⌜ r ≡ limbsOf (val limbs + signed away (W at * word)) ⌝ }
+    ensures { λ r. ⌜ r ≡ limbsOf (val limbs + complement away (W at * word)) ⌝ }
 {
     let mut out = limbs;
     let mut i = at;
@@ -63,7 +63,7 @@ pub(crate) fn ripple(limbs: [u64; 34], at: usize, word: u64, away: bool) -> [u64
 // digits·2^exponent added, or taken away: the digits lie across two limbs at most.
 pub(crate) fn moved(limbs: [u64; 34], digits: u64, exponent: u64, away: bool) -> [u64; 34]
     requires { ⌜ (digits < 2 ^ 53) × (exponent ≤ 2045) ⌝ }
-    ensures { λ r. ⌜ r ≡ limbsOf (val limbs + signed away (digits * 2 ^ exponent)) ⌝ }
+    ensures { λ r. ⌜ r ≡ limbsOf (val limbs + complement away (digits * 2 ^ exponent)) ⌝ }
 {
     let at = (exponent / 64) as usize;
     let by = exponent % 64;

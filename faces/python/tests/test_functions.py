@@ -127,7 +127,7 @@ class AgainstC(unittest.TestCase):
         with tempfile.TemporaryDirectory() as folder:
             program = Path(folder, "calls")
             archive = PROJECT / "target/staticlib/libshuttlemint.a"
-            subprocess.run(["gcc", "-x", "c", "-", "-x", "none", f"-I{PROJECT / 'faces/c'}", str(archive), "-lm", "-o", str(program)], input=self.PROGRAM, text=True, check=True)
+            subprocess.run(["gcc", "-x", "c", "-", "-x", "none", f"-I{PROJECT / 'faces/c'}", str(archive), "-o", str(program)], input=self.PROGRAM, text=True, check=True)
             lines = "".join("%d %x %x %x\n" % call for call in calls)
             said = subprocess.run([str(program)], input=lines, capture_output=True, text=True, check=True).stdout.splitlines()
         self.assertEqual(len(said), len(calls))

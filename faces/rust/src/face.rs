@@ -7,6 +7,8 @@ mod c {
         pub fn sm_edit(sheet: *mut u8, len: usize, row: u32, function: u8, a: u64, b: u64, c: u64) -> u8;
         pub fn sm_row_at(sheet: *const u8, len: usize, row: u32) -> usize;
         pub fn sm_row_refusal(sheet: *const u8, len: usize, row: u32) -> u8;
+        pub fn sm_row_class(sheet: *const u8, len: usize, row: u32) -> usize;
+        pub fn sm_count(sheet: *const u8, len: usize, class: u8) -> u32;
         pub fn sm_total(sheet: *const u8, len: usize) -> u64;
         pub fn sm_total_refusal(sheet: *const u8, len: usize) -> u8;
     }
@@ -44,26 +46,12 @@ pub fn total_refusal(sheet: &[u8]) -> u8 {
     unsafe { c::sm_total_refusal(sheet.as_ptr(), sheet.len()) }
 }
 
-// The library has no call for the next two, so they read the sheet's own bytes, at the places that docs/SHEET.md gives.
-
 /// A count as it stands in the sheet; 0 where the bytes are no sheet, or for a class above 4.
 pub fn count(sheet: &[u8], class: u8) -> u32 {
-    if total_refusal(sheet) != 0 || class > 4 {
-        return 0;
-    }
-    let at = sheet.len() - 296 + 4 * class as usize;
-    u32::from_le_bytes([0, 1, 2, 3].map(|k| sheet[at + k]))
+    unsafe { c::sm_count(sheet.as_ptr(), sheet.len(), class) }
 }
 
 /// The row's class, 0 to 4; 5 where a first answer that is NaN decides, or where the row can't be read.
-pub fn row_class(sheet: &[u8], row: u32) -> u8 {
-    let Some(row) = sheet.get(row_at(sheet, row)..).filter(|rest| !rest.is_empty()) else { return 5 };
-    match (row[0], row[1], f64::from_bits(u64::from_le_bytes([32, 33, 34, 35, 36, 37, 38, 39].map(|k| row[k])))) {
-        (0, ..) => 0,
-        (_, 1.., _) => 4,
-        (.., f64::INFINITY) => 2,
-        (.., f64::NEG_INFINITY) => 3,
-        (.., first) if first.is_nan() => 5,
-        _ => 1,
-    }
+pub fn row_class(sheet: &[u8], row: u32) -> usize {
+    unsafe { c::sm_row_class(sheet.as_ptr(), sheet.len(), row) }
 }

@@ -69,7 +69,7 @@ impl<B: AsRef<[u8]>> Sheet<B> {
         let bytes = self.as_bytes();
         accepted(face::row_refusal(bytes, row))?;
         let at = face::row_at(bytes, row);
-        let class = Class::ALL.get(face::row_class(bytes, row) as usize).copied();
+        let class = Class::ALL.get(face::row_class(bytes, row)).copied();
         Ok(Row { bytes: bytes[at..at + ROW].try_into().expect("48 bytes are a row"), class })
     }
 

@@ -1,6 +1,6 @@
 -- Each way through the code is one of the definition.
 use borrow.Author.Needs.{needs}
-use Rattle.engine.specs.Steps.{step-idle, step-long, step-line, step-over, step-more, step-full}
+use Rattle.engine.specs.laws.Steps.{step-idle, step-long, step-line, step-over, step-more, step-full}
 use Rattle.engine.proofs.step.Statement.{statement}
 use Rattle.engine.proofs.step.Tie as tie
 

@@ -4,7 +4,7 @@ use Prim.Native.Nat.{_+_, _-_, _≤_}
 use native.Mathlib.Omega.{arith}
 use lib.ListN.{length, drop}
 use Rattle.engine.specs.Machine.{Room, room, feedOf}
-use Rattle.engine.specs.Steps.{feed-next, feed-end}
+use Rattle.engine.specs.laws.Steps.{feed-next, feed-end}
 use Rattle.engine.proofs.steps.Statement.{statement}
 use Rattle.engine.proofs.steps.Tie as tie
 

@@ -7,7 +7,8 @@ use lib.ListN.{length}
 use borrow.Author.Needs.{needs}
 use Rattle.page.specs.Page.{countFields}
 use Rattle.page.specs.Text.{decimal, space}
-use Rattle.page.specs.Writing.{Put, put-length}
+use Rattle.page.specs.Writing.{Put}
+use Rattle.page.specs.laws.Writing.{put-length}
 use Rattle.page.proofs.Lines.{no-counts, next-count}
 use Rattle.page.proofs.put_counts.Statement.{statement}
 use Rattle.page.proofs.put_counts.Tie as tie

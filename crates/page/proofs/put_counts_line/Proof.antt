@@ -5,8 +5,8 @@ use borrow.Author.Needs.{needs}
 use Rattle.laws.specs.Ascii.{ascii}
 use Rattle.page.specs.Page.{countFields, countsLine}
 use Rattle.page.specs.Text.{decimal, end}
-use Rattle.page.specs.Writing.{put-both}
-use Rattle.sheet.specs.Calls.{countOf}
+use Rattle.page.specs.laws.Writing.{put-both}
+use Rattle.ledger.specs.Calls.{countOf}
 use Rattle.page.proofs.put_counts_line.Statement.{statement}
 use Rattle.page.proofs.put_counts_line.Tie as tie
 

@@ -3,7 +3,7 @@ use native.Mathlib.Omega.{arith}
 use mathlib.Core.List.{_++_, append-assoc}
 use borrow.Author.Needs.{needs}
 use Rattle.page.specs.Text.{decimal, end}
-use Rattle.page.specs.Writing.{put-both, put-length}
+use Rattle.page.specs.laws.Writing.{put-both, put-length}
 use Rattle.page.proofs.put_note.Statement.{statement}
 use Rattle.page.proofs.put_note.Tie as tie
 

@@ -4,7 +4,8 @@ use Prim.Native.Nat.{_*_, _-_, _≤_}
 use native.Mathlib.Omega.{arith}
 use lib.ListN.{length}
 use Rattle.page.specs.Page.{rowLine, rowLines}
-use Rattle.page.specs.Writing.{Put, put-length}
+use Rattle.page.specs.Writing.{Put}
+use Rattle.page.specs.laws.Writing.{put-length}
 use Rattle.page.proofs.Lines.{no-rows, next-row}
 use Rattle.page.proofs.put_rows.Statement.{statement}
 use Rattle.page.proofs.put_rows.Tie as tie

@@ -4,8 +4,8 @@ use mathlib.Core.List.{_++_}
 use borrow.Author.Needs.{needs}
 use borrow.Author.Tests.{le-ltb}
 use Rattle.page.specs.Page.{rowLines, countsLine, totalLine, pageOf}
-use Rattle.sheet.specs.Calls.{rowsIn}
-use Rattle.page.specs.Writing.{put-both, put-length}
+use Rattle.ledger.specs.Calls.{rowsIn}
+use Rattle.page.specs.laws.Writing.{put-both, put-length}
 use Rattle.page.proofs.put_sheet.Statement.{statement}
 use Rattle.page.proofs.put_sheet.Tie as tie
 

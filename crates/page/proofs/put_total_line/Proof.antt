@@ -6,8 +6,8 @@ use borrow.Author.Needs.{needs}
 use Rattle.laws.specs.Ascii.{ascii}
 use Rattle.page.specs.Page.{totalLine}
 use Rattle.page.specs.Text.{pattern, end}
-use Rattle.page.specs.Writing.{put-both}
-use Rattle.sheet.specs.Calls.{totalOf}
+use Rattle.page.specs.laws.Writing.{put-both}
+use Rattle.ledger.specs.Calls.{totalOf}
 use Rattle.page.proofs.put_total_line.Statement.{statement}
 use Rattle.page.proofs.put_total_line.Tie as tie
 

@@ -14,7 +14,7 @@ use Rattle.line.specs.declared.Line.the-variants.{Edit, Malformed}
 use Rattle.line.specs.Line.{decimalOf, lineOf}
 use Rattle.engine.specs.declared.State.{State}
 use Rattle.engine.specs.Machine.{Held, Room, lineNumber, countLine, editLine, takeLine, endOf, joinOf, stepOf, feedOf}
-use Rattle.engine.specs.Steps.{step-idle}
+use Rattle.engine.specs.laws.Steps.{step-idle}
 use Rattle.runner.specs.Program.{lineEnds}
 
 -- a bad line stays so

@@ -12,15 +12,12 @@ returns : tie.Need-returns
 unfolding rowPlaceOf
 returns c = rw (← c .before .row-refusal .ensures, ne-eqb _ _ (c .if1 .taken))
 
-mul-result : tie.Need-mul-result
-mul-result c = search needs
-
-add-result : tie.Need-add-result
-add-result c = search needs
+row-place-requires : tie.Need-row-place-requires
+row-place-requires c κs = search needs
 
 returns-2 : tie.Need-returns-2
 unfolding rowPlaceOf
-returns-2 c = rw (← c .before .row-refusal .ensures, eq-eqb _ _ (c .if1 .left))
+returns-2 c = rw (← c .before .before .row-refusal .ensures, eq-eqb _ _ (c .before .if1 .left), c .row-place .ensures)
 
 pub sm-row-at-spec : {M : Type 1} → statement M
-sm-row-at-spec = tie.close (tie.spec row-refusal-requires returns mul-result add-result returns-2)
+sm-row-at-spec = tie.close (tie.spec row-refusal-requires returns row-place-requires returns-2)

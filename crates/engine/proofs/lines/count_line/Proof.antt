@@ -30,11 +30,11 @@ returns-2 c =
     let r = c .before .before .before .rows .given in
     rw (c .between2 .ensures) (count-many (a .k) (a .sheet .now) (c .before .before .before .before .before .read-count .ensures) (r .0 .0) (r .1) (c .before .if1 .taken))
 
-mul-n : tie.Need-mul-n
-mul-n c = search needs
+cast-size-for : tie.Need-cast-size-for
+cast-size-for c = search needs
 
-add-n : tie.Need-add-n
-add-n c = search needs
+size-for-requires : tie.Need-size-for-requires
+size-for-requires c κs = search needs
 
 sub-make-blank : tie.Need-sub-make-blank
 sub-make-blank c = search needs
@@ -59,11 +59,12 @@ same-length c = search needs
 
 returns-3 : tie.Need-returns-3
 returns-3 c =
-    let a = c .before .before .before .before .before .before .before .before .before .before .before .before .args in
-    let r = c .before .before .before .before .before .before .before .rows .given in
+    let a = c .before .before .before .before .before .before .before .before .before .before .before .before .before .args in
+    let r = c .before .before .before .before .before .before .before .before .rows .given in
+    let n = c .before .before .before .before .before .size-for in
     let q = c .before .before .before .make-blank in
     rw (c .between3 .ensures)
-    (count-made (a .k) (a .sheet .now) (c .before .before .before .before .before .before .before .before .before .read-count .ensures) (r .0 .0) (q .result) (r .1) (c .before .before .before .before .before .if1 .left) (q .ensures .0) (q .ensures .1))
+    (count-made (a .k) (a .sheet .now) (c .before .before .before .before .before .before .before .before .before .before .read-count .ensures) (r .0 .0) (q .result) (n .result) (r .1) (c .before .before .before .before .before .before .if1 .left) (n .ensures) (q .ensures .0) (q .ensures .1))
 
 pub count-line-spec : {M : Type 1} → statement M
 count-line-spec =
@@ -76,8 +77,8 @@ count-line-spec =
     returns
     between-requires-2
     returns-2
-    mul-n
-    add-n
+    cast-size-for
+    size-for-requires
     sub-make-blank
     part-make-blank-start
     part-make-blank-end

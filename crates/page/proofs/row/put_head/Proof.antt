@@ -4,7 +4,7 @@ use mathlib.Core.List.{_++_, append-assoc}
 use borrow.Author.Needs.{needs}
 use Rattle.page.specs.Page.{headText}
 use Rattle.page.specs.Text.{decimal, space}
-use Rattle.page.specs.Writing.{put-both}
+use Rattle.page.specs.laws.Writing.{put-both}
 use Rattle.page.proofs.row.put_head.Statement.{statement}
 use Rattle.page.proofs.row.put_head.Tie as tie
 

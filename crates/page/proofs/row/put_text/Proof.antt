@@ -3,7 +3,7 @@ use native.Mathlib.Omega.{arith}
 use lib.ListN.{getD}
 use borrow.Author.Needs.{needs}
 use Rattle.page.specs.Page.{headText, answersText, answerAt, rowText}
-use Rattle.page.specs.Writing.{put-both}
+use Rattle.page.specs.laws.Writing.{put-both}
 use Rattle.page.proofs.row.put_text.Statement.{statement}
 use Rattle.page.proofs.row.put_text.Tie as tie
 

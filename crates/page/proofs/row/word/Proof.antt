@@ -4,7 +4,7 @@ use Prim.Native.Nat.{_-_, _^_, _≤_, _<_, suc}
 use lib.ListN.{length, drop}
 use native.Mathlib.Omega.{arith}
 use borrow.Author.Needs.{needs}
-use Rattle.sheet.specs.Bytes.{number}
+use Rattle.ledger.specs.Bytes.{number}
 use Rattle.page.proofs.Words.{no-bytes, one-before, grows, fits}
 use Rattle.page.proofs.row.word.Statement.{statement}
 use Rattle.page.proofs.row.word.Tie as tie

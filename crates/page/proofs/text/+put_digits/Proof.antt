@@ -5,7 +5,7 @@ use native.Mathlib.Omega.{arith}
 use borrow.Author.Needs.{needs}
 use borrow.Fn.Kinds.{In}
 use borrow.Fn.PlainCycle.{Measures, is, falls, and}
-use Rattle.page.specs.Digits.{if-below}
+use Rattle.page.specs.laws.Digits.{if-below}
 use Rattle.page.proofs.Digits.{no-digits, one-digit, more-digits}
 use Rattle.page.proofs.text.put_digits.Reads as put-digits
 use Rattle.page.proofs.text.put_digits.Kinds as put-digits-kinds

@@ -1,5 +1,5 @@
 use borrow.Author.Needs.{needs}
-use Rattle.page.specs.Writing.{put-one}
+use Rattle.page.specs.laws.Writing.{put-one}
 use Rattle.page.proofs.text.put_byte.Statement.{statement}
 use Rattle.page.proofs.text.put_byte.Tie as tie
 

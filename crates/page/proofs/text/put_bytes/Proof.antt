@@ -5,7 +5,8 @@ use native.Mathlib.Nat.{add-zero}
 use lib.ListN.{length, take, length-set}
 use lib.Seq.{take-length}
 use native.Mathlib.Omega.{arith}
-use Rattle.page.specs.Writing.{Put, put-none, put-next}
+use Rattle.page.specs.Writing.{Put}
+use Rattle.page.specs.laws.Writing.{put-none, put-next}
 use Rattle.page.proofs.text.put_bytes.Statement.{statement}
 use Rattle.page.proofs.text.put_bytes.Tie as tie
 

@@ -3,8 +3,8 @@ use native.Mathlib.Omega.{arith}
 use mathlib.Core.List.{[], _∷_}
 use borrow.Author.Needs.{needs}
 use Rattle.page.specs.Text.{decimal}
-use Rattle.page.specs.Writing.{put-both}
-use Rattle.page.specs.Digits.{decimal-enough}
+use Rattle.page.specs.laws.Writing.{put-both}
+use Rattle.page.specs.laws.Digits.{decimal-enough}
 use Rattle.page.proofs.text.put_decimal.Statement.{statement}
 use Rattle.page.proofs.text.put_decimal.Tie as tie
 

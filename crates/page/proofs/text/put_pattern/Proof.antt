@@ -3,7 +3,7 @@ use native.Mathlib.Omega.{arith}
 use mathlib.Core.List.{[], _∷_}
 use borrow.Author.Needs.{needs}
 use Rattle.page.specs.Text.{pattern}
-use Rattle.page.specs.Writing.{put-both}
+use Rattle.page.specs.laws.Writing.{put-both}
 use Rattle.page.proofs.text.put_pattern.Statement.{statement}
 use Rattle.page.proofs.text.put_pattern.Tie as tie
 

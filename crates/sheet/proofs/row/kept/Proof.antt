@@ -1,20 +1,25 @@
--- An argument is kept where its place is below the count of those read.
-use borrow.Author.Tests.{lt-ltb, le-ltb}
-use Rattle.sheet.specs.Sheet.{keep}
+-- Argument by argument.
+use Rattle.sheet.specs.declared.Entry.{Entry}
+use Rattle.sheet.specs.Edit.{keptOf}
 use borrow.Author.Needs.{needs}
+use Rattle.sheet.proofs.row.argument.Reads as argument-reads
 use Rattle.sheet.proofs.row.kept.Statement.{statement}
 use Rattle.sheet.proofs.row.kept.Tie as tie
+use Rattle.sheet.proofs.row.kept.Reads as reads
+use Rattle.sheet.proofs.row.kept.Lts as lts
 
-used-requires : tie.Need-used-requires
-used-requires c κs = search needs
+argument-requires : tie.Need-argument-requires
+argument-requires c κs = search needs
+
+argument-requires-2 : tie.Need-argument-requires-2
+argument-requires-2 c κs = search needs
+
+argument-requires-3 : tie.Need-argument-requires-3
+argument-requires-3 c κs = search needs
 
 returns : tie.Need-returns
-unfolding keep
-returns c = rw (← c .before .used .ensures, lt-ltb _ _ (c .if1 .taken))
-
-returns-2 : tie.Need-returns-2
-unfolding keep
-returns-2 c = rw (← c .before .used .ensures, le-ltb _ _ (c .if1 .left))
+unfolding keptOf
+returns c = λ i. record { function = c .before .before .before .args .entry .function; a = c .before .before .argument .ensures i; b = c .before .argument2 .ensures i; c = c .argument3 .ensures i }
 
 pub kept-spec : {M : Type 1} → statement M
-kept-spec = tie.close (tie.spec used-requires returns returns-2)
+kept-spec = tie.close (tie.spec argument-requires argument-requires-2 argument-requires-3 returns)

@@ -1,7 +1,7 @@
 -- The parts' limbs are moved; `added` says what that is of the value.
 use borrow.Author.Needs.{needs}
 use Prim.Native.Nat.{_+_, _*_, _^_}
-use Rattle.total.specs.Total.{val, signed}
+use Rattle.total.specs.Total.{val, complement}
 use Rattle.total.proofs.Adding.{parts-small, added, held}
 use Rattle.total.proofs.Total.add.Statement.{statement}
 use Rattle.total.proofs.Total.add.Tie as tie
@@ -18,7 +18,7 @@ returns c =
     let t = val (c .before .before .before .args .self .limbs) in
     let d = p .result .digits in
     let e = p .result .exponent in
-    held (c .moved .result) (t + signed (p .result .negative) (d * 2 ^ e)) _ (c .moved .ensures) (added (c .before .before .before .args .x) (p .result .finite) (p .result .negative) d e (p .ensures) t)
+    held (c .moved .result) (t + complement (p .result .negative) (d * 2 ^ e)) _ (c .moved .ensures) (added (c .before .before .before .args .x) (p .result .finite) (p .result .negative) d e (p .ensures) t)
 
 pub add-spec : {M : Type 1} → statement M
 add-spec = tie.close (tie.spec parts-requires moved-requires returns)

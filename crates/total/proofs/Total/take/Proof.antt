@@ -2,7 +2,7 @@
 use borrow.Author.Needs.{needs}
 use mathlib.Core.Bool.{not}
 use Prim.Native.Nat.{_+_, _*_, _^_}
-use Rattle.total.specs.Total.{val, signed}
+use Rattle.total.specs.Total.{val, complement}
 use Rattle.total.proofs.Adding.{parts-small, taken, held}
 use Rattle.total.proofs.Total.take.Statement.{statement}
 use Rattle.total.proofs.Total.take.Tie as tie
@@ -19,7 +19,7 @@ returns c =
     let t = val (c .before .before .before .before .args .self .limbs) in
     let d = p .result .digits in
     let e = p .result .exponent in
-    held (c .moved .result) (t + signed (not (p .result .negative)) (d * 2 ^ e)) _ (c .moved .ensures) (taken (c .before .before .before .before .args .x) (p .result .finite) (p .result .negative) d e (p .ensures) t)
+    held (c .moved .result) (t + complement (not (p .result .negative)) (d * 2 ^ e)) _ (c .moved .ensures) (taken (c .before .before .before .before .args .x) (p .result .finite) (p .result .negative) d e (p .ensures) t)
 
 pub take-spec : {M : Type 1} → statement M
 take-spec = tie.close (tie.spec parts-requires moved-requires returns)

@@ -7,7 +7,7 @@ use mir.Syntax.{w64}
 use lib.ListN.{length, length-set}
 use Rattle.total.specs.Total.{val}
 use Rattle.total.specs.Carry.{W, Balance}
-use Rattle.total.specs.Limbs.{Fit}
+use Rattle.total.specs.laws.Limbs.{Fit}
 use Rattle.total.proofs.Carrying.{fit-set, next, spent, gone, reach}
 use Rattle.total.proofs.limbs.ripple.Statement.{statement}
 use Rattle.total.proofs.limbs.ripple.Tie as tie

@@ -6,7 +6,7 @@ use native.Mathlib.Omega.{arith}
 use borrow.Author.Needs.{elem-fits}
 use mir.Syntax.{w64}
 use lib.ListN.{length}
-use Rattle.total.specs.Limbs.{Fit}
+use Rattle.total.specs.laws.Limbs.{Fit}
 use Rattle.total.proofs.TopLimbs.{round-one, round-two}
 use borrow.Author.Needs.{needs}
 use Rattle.total.proofs.rounding.round_size.Statement.{statement}

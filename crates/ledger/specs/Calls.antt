@@ -1,0 +1,135 @@
+-- What each call answers, and what it makes of the sheet's bytes (01, "The leg sheet", from "Calls" on). Definitions only.
+use Prim.Native.Nat.{ℕ, _+_, _-_, _/_}
+use mathlib.Core.Path.{_≡_}
+use mathlib.Core.Bool.{Bool, true, false, _&&_, _||_, not}
+use mathlib.Core.List.{List, [], _∷_}
+use lib.Dec.{leb, ltb, eqb}
+use lib.ListN.{length, take, drop, getD, set, replicate}
+use lib.Ieee.{Float}
+use Rattle.laws.specs.Arithmetic.{+0}
+use Rattle.laws.specs.Ladder.{when_gives_else_}
+use Rattle.answer.specs.Numbers.{last}
+use Rattle.total.specs.Total.{roundTotal}
+use Rattle.ledger.specs.Bytes.{number, read, splice}
+use Rattle.ledger.specs.Sheet.{Row, entries, sizeFor, mostRows, rowPlace, blankRow, functionIn, noClass, classOf, sound, retotal, totals, encode}
+
+-- ---- what stands in bytes that may be a sheet
+
+-- how many rows bytes of this length have room for
+unfoldable pub rowsIn : List ℕ → ℕ
+rowsIn s = (length s - 328) / 48
+
+-- the length is that of a sheet
+abbrev pub Sized : List ℕ → Type 0
+Sized s = length s ≡ sizeFor (rowsIn s)
+
+-- row i, the five counts, the total, where such a sheet has them
+unfoldable pub rowIn : List ℕ → ℕ → Row
+rowIn s i = take 48 (drop (rowPlace i) s)
+
+unfoldable pub countsIn : List ℕ → List ℕ
+countsIn s = read 4 5 (drop (rowPlace (rowsIn s)) s)
+
+unfoldable pub totalIn : List ℕ → ℕ
+totalIn s = number (take 272 (drop (rowPlace (rowsIn s) + 24) s))
+
+-- the same numbers
+unfoldable pub equal : List ℕ → List ℕ → Bool
+equal [] [] = true
+equal [] (y ∷ ys) = false
+equal (x ∷ xs) [] = false
+equal (x ∷ xs) (y ∷ ys) = eqb x y && equal xs ys
+
+-- added up
+unfoldable pub plus : List ℕ → ℕ
+plus [] = 0
+plus (x ∷ xs) = x + plus xs
+
+-- ---- refusals; 0: none
+
+-- refusal 7: length or contents are not those of a sheet
+unfoldable pub isSheet : List ℕ → Bool
+isSheet s = leb (rowsIn s) mostRows && (eqb (length s) (sizeFor (rowsIn s)) && equal (read 4 8 s) (entries (rowsIn s)))
+
+-- refusal 10's count tests: the counts do not add up, or that of the row's class is 0
+unfoldable pub miscounted : List ℕ → ℕ → Bool
+miscounted s i = not (eqb (plus (countsIn s)) (rowsIn s)) || eqb (getD (countsIn s) (classOf (rowIn s i)) 0) 0
+
+-- refusal 10: the row to be replaced is damaged, or the counts are
+unfoldable pub damaged : List ℕ → ℕ → Bool
+damaged s i = not (sound (rowIn s i)) || miscounted s i
+
+-- "Order for an edit: 7, 8, 9, 10.": what stands between 7 and the rest, for row i of r and a new row's function f
+unfoldable pub rungs : ℕ → ℕ → ℕ → ℕ → ℕ
+rungs r i f rest =
+    when leb r i gives 8 else
+    when ltb last f gives 9 else
+    rest
+
+-- "The total: 7."
+unfoldable pub totalRefusal : List ℕ → ℕ
+totalRefusal s =
+    when not (isSheet s) gives 7 else
+    0
+
+-- "A row read: 7, 8."
+unfoldable pub rowRefusal : List ℕ → ℕ → ℕ
+rowRefusal s i =
+    when not (isSheet s) gives 7 else
+    when leb (rowsIn s) i gives 8 else
+    0
+
+-- row w in place of row i: 10 also where w is no row that an edit stores
+unfoldable pub placeRefusal : List ℕ → ℕ → Row → ℕ
+placeRefusal s i w =
+    when not (isSheet s) gives 7 else
+    rungs (rowsIn s) i (functionIn w) (when not (sound w) || damaged s i gives 10 else 0)
+
+-- "make blank (11, then 7 for the length)"
+unfoldable pub blankRefusal : List ℕ → ℕ → ℕ
+blankRefusal s r =
+    when ltb mostRows r gives 11 else
+    when not (eqb (length s) (sizeFor r)) gives 7 else
+    0
+
+-- ---- the calls
+
+-- a sheet of blank rows; a refused call changes no byte
+unfoldable pub blankOf : List ℕ → ℕ → List ℕ
+blankOf s r = when eqb (blankRefusal s r) 0 gives encode (replicate r blankRow) else s
+
+-- one less of the old class, one more of the new
+unfoldable pub recount : List ℕ → ℕ → ℕ → List ℕ
+recount cs old new = let less = set cs old (getD cs old 0 - 1) in set less new (getD less new 0 + 1)
+
+-- the sheet's totals with row new in place of row old
+unfoldable pub revised : List ℕ → Row → Row → List ℕ
+revised s old new = totals (recount (countsIn s) (classOf old) (classOf new)) (retotal (totalIn s) old new)
+
+-- row w in place of row i, and the totals with it
+unfoldable pub edited : List ℕ → ℕ → Row → List ℕ
+edited s i w = splice (splice s (rowPlace i) w) (rowPlace (rowsIn s)) (revised s (rowIn s i) w)
+
+-- the same, of any bytes; a refused call changes none
+unfoldable pub placeOf : List ℕ → ℕ → Row → List ℕ
+placeOf s i w = when eqb (placeRefusal s i w) 0 gives edited s i w else s
+
+-- the row's own bytes; none where the read is refused
+unfoldable pub readOf : List ℕ → ℕ → List ℕ
+readOf s i = when eqb (rowRefusal s i) 0 gives rowIn s i else []
+
+-- whether the row passes the row tests; not where it can't be read
+unfoldable pub soundRow : List ℕ → ℕ → Bool
+soundRow s i = when eqb (rowRefusal s i) 0 gives sound (rowIn s i) else false
+
+-- the row's class; none where it can't be read
+unfoldable pub classIn : List ℕ → ℕ → ℕ
+classIn s i = when eqb (rowRefusal s i) 0 gives classOf (rowIn s i) else noClass
+
+-- the total rounded once; +0 where it is refused
+unfoldable pub totalOf : List ℕ → Float
+totalOf s = when eqb (totalRefusal s) 0 gives roundTotal (totalIn s) else +0
+
+-- how many rows are of class k, by the sheet's own counts; 0 where it is refused
+unfoldable pub countOf : List ℕ → ℕ → ℕ
+countOf s k = when eqb (totalRefusal s) 0 gives getD (countsIn s) k 0 else 0

@@ -1,0 +1,36 @@
+-- A row's weight in the total: what the running total's calls make of it, and how far it can go. Assumes nothing.
+use mathlib.Core.Path.{_≡_, ap, _∙_}
+use mathlib.Core.Bool.{Bool, true, false, cond}
+use Prim.Native.Nat.{ℕ, _+_, _-_, _%_, _^_, _<_, _≤_}
+use native.Mathlib.Nat.{mod-lt, mod-add-mod, le-of-lt}
+use lib.Dec.{T, eqb}
+use lib.Ieee.{fits, binary64}
+use lib.Ieee.Bits.{ofBits-fits}
+use Rattle.laws.specs.Arithmetic.{+0}
+use Rattle.total.specs.Total.{N, complement, unitsOf, addOf, takeOf}
+use Rattle.total.specs.laws.Limbs.{N-pos}
+use Rattle.total.specs.laws.Units.{size-lt, taken-units}
+use Rattle.ledger.specs.Sheet.{Row, firstIn, classOf, valueOf, negativeIn, sizeIn, unitsIn, retotal}
+
+value-fits : (w : Row) → T (fits binary64 (valueOf w))
+unfolding valueOf firstIn
+value-fits w = go (eqb (classOf w) 1)
+  where
+    go : (b : Bool) → T (fits binary64 (cond b (firstIn w) +0))
+    go true = ofBits-fits binary64 _
+    go false = ofBits-fits binary64 0
+
+pub size-in-lt : (w : Row) → sizeIn w < 2 ^ 2098
+unfolding sizeIn
+size-in-lt w = size-lt (valueOf w) (value-fits w)
+
+pub units-in-le : (w : Row) → unitsIn w ≤ N
+unfolding unitsIn
+units-in-le w = le-of-lt (mod-lt (complement (negativeIn w) (sizeIn w)) N-pos)
+
+-- the old value taken away, and then the new one added
+pub retotal-is : (t : ℕ) (o n : Row) → addOf (takeOf t (valueOf o)) (valueOf n) ≡ retotal t o n
+unfolding addOf retotal unitsIn sizeIn unitsOf
+retotal-is t o n =
+    ap (λ (k : ℕ). (k + unitsOf (valueOf n)) % N) (taken-units t (valueOf o) (value-fits o))
+    ∙ mod-add-mod (t + (N - unitsOf (valueOf o))) N (unitsOf (valueOf n))

@@ -1,0 +1,109 @@
+// What is refused.
+use super::bytes::get_u32;
+use super::row::function_of;
+use super::row::is_sound;
+use super::row::row_part;
+use super::row::share_of;
+use super::row::words_sound;
+use super::totals::read_counts;
+use super::totals::sum;
+use crate::rows_in;
+use crate::size_for;
+use answer::LAST;
+ghost use mathlib.Core.Path.{_≡_};
+ghost use mathlib.Core.Bool.{true};
+ghost use Prim.Native.Nat.{_+_, _*_, _≤_, _<_};
+ghost use lib.ListN.{length};
+ghost use Rattle.ledger.specs.Bytes.{read, fields};
+ghost use Rattle.ledger.specs.Sheet.{entries, sound};
+ghost use Rattle.ledger.specs.Calls.{Sized, rowsIn, rowIn, equal, isSheet, miscounted, damaged, rowRefusal, placeRefusal};
+
+// Kind, place, length and how many, of the rows and of the totals.
+pub(crate) fn contents(rows: u32) -> [u32; 8]
+    requires { ⌜ rows ≤ 1024 ⌝ }
+    ensures { λ r. ⌜ r ≡ entries rows ⌝ }
+{
+    [1, 32, 48 * rows, rows, 2, 32 + 48 * rows, 296, 1]
+}
+
+fn starts_with(s: &[u8], words: [u32; 8]) -> bool
+    requires { ⌜ 32 ≤ length (now s) ⌝ }
+    ensures { λ r. ⌜ r ≡ equal (read 4 8 (now (s .entry))) words ⌝ }
+{
+    let mut i: usize = 0;
+    while i < 8 {
+        if get_u32(s, 4 * i) != words[i] {
+            return false;
+        }
+        i += 1;
+    }
+    true
+}
+
+pub(crate) fn is_sheet(s: &[u8]) -> bool
+    ensures { λ r. ⌜ r ≡ isSheet (now (s .entry)) ⌝ }
+{
+    let rows = rows_in(s);
+    if rows > 1024 {
+        return false;
+    }
+    if s.len() != size_for(rows as u32) {
+        return false;
+    }
+    starts_with(s, contents(rows as u32))
+}
+
+// Whether the counts do not add up, or that of a sound row's class is 0.
+fn is_miscounted(s: &[u8], row: u32) -> bool
+    requires { ⌜ Sized (now s) × (row < rowsIn (now s)) × (sound (rowIn (now s) row) ≡ true) ⌝ }
+    ensures { λ r. ⌜ r ≡ miscounted (now (s .entry)) row ⌝ }
+{
+    let class = share_of(row_part(s, row)).class;
+    let counts = read_counts(s);
+    if sum(counts) != rows_in(s) as u64 {
+        return true;
+    }
+    counts[class] == 0
+}
+
+// Whether the row that is to be replaced, or the counts, are damaged.
+fn is_damaged(s: &[u8], row: u32) -> bool
+    requires { ⌜ Sized (now s) × (row < rowsIn (now s)) ⌝ }
+    ensures { λ r. ⌜ r ≡ damaged (now (s .entry)) row ⌝ }
+{
+    if !is_sound(row_part(s, row)) {
+        return true;
+    }
+    is_miscounted(s, row)
+}
+
+pub(crate) fn refusal_of_row(s: &[u8], row: u32) -> u8
+    ensures { λ r. ⌜ r ≡ rowRefusal (now (s .entry)) row ⌝ }
+{
+    if !is_sheet(s) {
+        return 7;
+    }
+    if row as usize >= rows_in(s) {
+        return 8;
+    }
+    0
+}
+
+pub(crate) fn refusal_of_place(s: &[u8], row: u32, words: [u64; 6]) -> u8
+    ensures { λ r. ⌜ r ≡ placeRefusal (now (s .entry)) row (fields 8 words) ⌝ }
+{
+    let refusal = refusal_of_row(s, row);
+    if refusal != 0 {
+        return refusal;
+    }
+    if function_of(words) > LAST {
+        return 9;
+    }
+    if !words_sound(words) {
+        return 10;
+    }
+    if is_damaged(s, row) {
+        return 10;
+    }
+    0
+}

@@ -1,0 +1,175 @@
+// The leg sheet's bytes, in memory that the caller lends (01, "The leg sheet"): contents, rows, counts and total. Nothing here knows the integrals.
+// Every call answers for any bytes; a refused one changes none.
+use bytes::pair;
+use bytes::put_u32;
+use bytes::put_words;
+use bytes::put_zeros;
+use checks::contents;
+use checks::is_sheet;
+use checks::refusal_of_place;
+use checks::refusal_of_row;
+use row::is_sound;
+use row::put_row;
+use row::row_part;
+use row::share_of;
+use total::Total;
+use totals::read_counts;
+use totals::read_total;
+use totals::revise;
+ghost use mathlib.Core.Path.{_≡_};
+ghost use mathlib.Core.Bool.{false};
+ghost use Prim.Native.Nat.{_+_, _*_, _≤_, _<_};
+ghost use lib.ListN.{length};
+ghost use Rattle.ledger.specs.Bytes.{fields};
+ghost use Rattle.ledger.specs.Sheet.{sizeFor, rowPlace, classOf};
+ghost use Rattle.ledger.specs.Calls.{Sized, rowsIn, blankRefusal, blankOf, damaged, edited, placeRefusal, placeOf, rowRefusal, readOf, soundRow, classIn, totalRefusal, totalOf, countOf};
+
+mod bytes;
+mod checks;
+mod row;
+mod totals;
+
+// How many bytes a sheet of so many rows has.
+pub fn size_for(rows: u32) -> usize
+    ensures { λ r. ⌜ r ≡ sizeFor rows ⌝ }
+{
+    328 + 48 * (rows as usize)
+}
+
+// How many rows so many bytes have room for.
+pub fn rows_in(sheet: &[u8]) -> usize
+    ensures { λ r. ⌜ r ≡ rowsIn (now (sheet .entry)) ⌝ }
+{
+    if sheet.len() < 328 {
+        return 0;
+    }
+    (sheet.len() - 328) / 48
+}
+
+// Where a row starts.
+pub fn row_place(row: u32) -> usize
+    ensures { λ r. ⌜ r ≡ rowPlace row ⌝ }
+{
+    32 + 48 * (row as usize)
+}
+
+// Eight numbers of four bytes, two to a word.
+fn paired(xs: [u32; 8]) -> [u64; 4]
+    ensures { λ r. ⌜ fields 8 r ≡ fields 4 xs ⌝ }
+{
+    [
+        pair(xs[0], xs[1]),
+        pair(xs[2], xs[3]),
+        pair(xs[4], xs[5]),
+        pair(xs[6], xs[7]),
+    ]
+}
+
+// A blank sheet of so many rows: 11 more than 1,024, 7 another length, 0 made.
+pub fn make_blank(sheet: &mut [u8], rows: u32) -> u8
+    ensures { λ r. ⌜ (r ≡ blankRefusal (now (sheet .entry)) rows) × (now (sheet .exit) ≡ blankOf (now (sheet .entry)) rows) ⌝ }
+{
+    if rows > 1024 {
+        return 11;
+    }
+    if sheet.len() != size_for(rows) {
+        return 7;
+    }
+    put_zeros(sheet);
+    put_words(&mut sheet[0..32], &paired(contents(rows)));
+    put_u32(sheet, row_place(rows), rows);
+    0
+}
+
+// A row's words in place of what stands there, and the totals revised.
+fn store(sheet: &mut [u8], row: u32, words: [u64; 6])
+    requires { ⌜ Sized (now sheet) × (rowsIn (now sheet) ≤ 1024) × (row < rowsIn (now sheet)) × (damaged (now sheet) row ≡ false) × (classOf (fields 8 words) < 5) ⌝ }
+    ensures { λ _. ⌜ now (sheet .exit) ≡ edited (now (sheet .entry)) row (fields 8 words) ⌝ }
+{
+    let old = share_of(row_part(sheet, row));
+    put_row(sheet, row, words);
+    let new = share_of(row_part(sheet, row));
+    revise(sheet, old, new);
+}
+
+// A row of these words in place of another: 7, 8, 9 (their function), 10 (the old row or the counts damaged, or the new row not one that an edit stores), or 0, stored.
+pub fn place(sheet: &mut [u8], row: u32, words: [u64; 6]) -> u8
+    ensures { λ r. ⌜ (r ≡ placeRefusal (now (sheet .entry)) row (fields 8 words)) × (now (sheet .exit) ≡ placeOf (now (sheet .entry)) row (fields 8 words)) ⌝ }
+{
+    let refusal = refusal_of_place(sheet, row, words);
+    if refusal != 0 {
+        return refusal;
+    }
+    store(sheet, row, words);
+    0
+}
+
+// The row's own 48 bytes, or an empty part; `row_refusal` says why.
+pub fn read_row(sheet: &[u8], row: u32) -> &[u8]
+    ensures { λ r. ⌜ now r ≡ readOf (now (sheet .entry)) row ⌝ }
+{
+    if refusal_of_row(sheet, row) != 0 {
+        return &sheet[0..0];
+    }
+    row_part(sheet, row)
+}
+
+// 7 or 8, or 0: the row can be read.
+pub fn row_refusal(sheet: &[u8], row: u32) -> u8
+    ensures { λ r. ⌜ r ≡ rowRefusal (now (sheet .entry)) row ⌝ }
+{
+    refusal_of_row(sheet, row)
+}
+
+// Whether the row passes refusal 10's row tests; false where it can't be read.
+pub fn row_sound(sheet: &[u8], row: u32) -> bool
+    ensures { λ r. ⌜ r ≡ soundRow (now (sheet .entry)) row ⌝ }
+{
+    if refusal_of_row(sheet, row) != 0 {
+        return false;
+    }
+    is_sound(row_part(sheet, row))
+}
+
+// The row's class, as `count` numbers them; 5 where a NaN first answer leaves it none, or the row can't be read.
+pub fn row_class(sheet: &[u8], row: u32) -> usize
+    ensures { λ r. ⌜ r ≡ classIn (now (sheet .entry)) row ⌝ }
+{
+    if refusal_of_row(sheet, row) != 0 {
+        return 5;
+    }
+    share_of(row_part(sheet, row)).class
+}
+
+// The total rounded once to f64, and +0 where `total_refusal` is not 0.
+pub fn total(sheet: &[u8]) -> f64
+    ensures { λ r. ⌜ r ≡ totalOf (now (sheet .entry)) ⌝ }
+{
+    if !is_sheet(sheet) {
+        return 0.0;
+    }
+    Total::of(read_total(sheet)).rounded()
+}
+
+// 7, or 0: the bytes are a sheet.
+pub fn total_refusal(sheet: &[u8]) -> u8
+    ensures { λ r. ⌜ r ≡ totalRefusal (now (sheet .entry)) ⌝ }
+{
+    if !is_sheet(sheet) {
+        return 7;
+    }
+    0
+}
+
+// How many rows are blank (0), finite (1), +∞ (2), -∞ (3) or refused (4), by the sheet's own counts; 0 for another class or where `total_refusal` is not 0.
+pub fn count(sheet: &[u8], class: u8) -> u32
+    ensures { λ r. ⌜ r ≡ countOf (now (sheet .entry)) class ⌝ }
+{
+    if !is_sheet(sheet) {
+        return 0;
+    }
+    if class > 4 {
+        return 0;
+    }
+    read_counts(sheet)[class as usize]
+}

@@ -1,0 +1,3 @@
+-- Laws of the total: limbs and numbers, values and units.
+pub mod Limbs
+pub mod Units

@@ -1,0 +1,145 @@
+-- A value in units of 2^-1074: a whole number for every f64, far below N, and undone by its opposite. Assumes nothing.
+use mathlib.Core.Path.{_≡_, refl, ap, _∙_, sym}
+use mathlib.Core.Bool.{Bool, true, false, not, _&&_}
+use Prim.Native.Nat.{ℕ, zero, suc, _+_, _*_, _^_, _%_, _/_, _-_, _<_, _≤_}
+use native.Mathlib.Nat.{sub-zero, mod-self, zero-mod, add-mod, mod-add-mod, add-mod-mod, mul-div-cancel, div-lt-iff-lt-mul, div-one, lt-of-lt-of-le, lt-of-le-of-lt, lt-irrefl, le-of-lt, le-trans, le-of-eq, mul-one, mul-assoc, mul-right-comm, mul-pos, zero-mul, mul-lt-mul-of-pos-right, add-assoc, add-zero, div-add-mod, mod-lt}
+use native.Mathlib.Omega.{arith}
+use lib.Dec.{T, ltb, leb, eqb, ltb→lt, leb→le, eqb→eq, lit≤}
+use lib.IntN.{ℤ, pos, negsuc}
+use lib.Pow.{pow-pos, pow-add, pow-mono, pow-lt}
+use lib.Ieee.{Float, nan, inf, fin, up, down, neg, fits, binary64}
+use lib.Ieee.Fits.{and-l, and-r, down-pos}
+use lib.Ieee.Exact.{HasValue}
+use lib.Ieee.Scale.{finite}
+use Rattle.total.specs.laws.Limbs.{N-pos, same-mod}
+use Rattle.total.specs.Total.{N, complement, negative, sizeOf, unitsOf, addOf, takeOf}
+
+-- ---- a value that is a whole number of units
+pub size-value : (x : Float) (s : Bool) (a : ℕ) → HasValue x s a (2 ^ 1074) → sizeOf x ≡ a
+unfolding sizeOf
+size-value nan s a h = absurd h
+size-value (inf t) s a h = absurd h
+size-value (fin t m e) s a h = ap (λ (n : ℕ). n / down e) (h .1) ∙ mul-div-cancel a (down-pos e)
+
+sign-value : (x : Float) (s : Bool) (a : ℕ) → HasValue x s a (2 ^ 1074) → negative x ≡ s
+unfolding negative
+sign-value nan s a h = absurd h
+sign-value (inf t) s a h = absurd h
+sign-value (fin t m e) s a h = h .0
+
+pub units-value : (x : Float) (s : Bool) (a : ℕ) → HasValue x s a (2 ^ 1074) → unitsOf x ≡ complement s a % N
+unfolding unitsOf
+units-value x s a h = (λ i. complement (sign-value x s a h i) (size-value x s a h i) % N)
+
+pub neg-value : (x : Float) (s : Bool) (a c : ℕ) → HasValue x s a c → HasValue (neg x) (not s) a c
+unfolding neg
+neg-value nan s a c h = absurd h
+neg-value (inf t) s a c h = absurd h
+neg-value (fin t m e) s a c h = (ap not (h .0), h .1)
+
+-- ---- NaN and the infinities add nothing
+pub units-none : (x : Float) → finite x ≡ false → (unitsOf x ≡ 0) × (unitsOf (neg x) ≡ 0)
+unfolding unitsOf neg negative sizeOf complement
+units-none nan h = (zero-mod N, zero-mod N)
+units-none (inf s) h = (zero-mod N, zero-mod N)
+units-none (fin s m e) h = let z : _≡_ {A = ℕ} 0 1 = cc in absurd (omega arith)
+
+pub complement-zero : (s : Bool) → complement s 0 % N ≡ 0
+unfolding complement
+complement-zero true = ap (λ (n : ℕ). n % N) (sub-zero N) ∙ mod-self N
+complement-zero false = zero-mod N
+
+-- ---- every f64 is a whole number of units, below 2^2098
+pow-back : (i j : ℕ) → 2 ^ i ≤ 2 ^ j → i ≤ j
+pow-back i j h = let g : suc j ≤ i → ⊥ = λ l. lt-irrefl (2 ^ j) (lt-of-lt-of-le (pow-lt {i = j} {j = suc j} (le-of-eq refl)) (le-trans (pow-mono l) h)) in omega arith
+
+divides : (m : ℕ) (e : ℤ) → down e ≤ 2 ^ 1074 → m * up e * 2 ^ 1074 / down e * down e ≡ m * up e * 2 ^ 1074
+divides m (pos k) h = mul-one (m * 2 ^ k * 2 ^ 1074 / 1) ∙ div-one (m * 2 ^ k * 2 ^ 1074)
+divides m (negsuc k) h =
+    let l : suc k ≤ 1074 = pow-back (suc k) 1074 h in
+    let j = 1074 - suc k in
+    let e : 2 ^ 1074 ≡ 2 ^ j * 2 ^ suc k = ap (λ (n : ℕ). 2 ^ n) (let z : 1074 ≡ j + suc k = omega arith in z) ∙ pow-add 2 j (suc k) in
+    let g : m * 1 * 2 ^ 1074 ≡ m * 1 * 2 ^ j * 2 ^ suc k = ap (λ (n : ℕ). m * 1 * n) e ∙ sym (mul-assoc (m * 1) (2 ^ j) (2 ^ suc k)) in
+    ap (λ (n : ℕ). n / 2 ^ suc k * 2 ^ suc k) g ∙ ap (λ (n : ℕ). n * 2 ^ suc k) (mul-div-cancel (m * 1 * 2 ^ j) (pow-pos (suc k))) ∙ sym g
+
+fit-parts : (s : Bool) (m : ℕ) (e : ℤ) → T (fits binary64 (fin s m e)) → (down e ≤ 2 ^ 1074) × (m * up e < 2 ^ 1024 * down e)
+unfolding fits
+fit-parts s zero e h = (
+  le-trans (one (up e) (down e) (eqb→eq (up e * down e) 1 h)) (pow-pos 1074),
+  lt-of-le-of-lt (le-of-eq (zero-mul (up e))) (mul-pos (pow-pos 1024) (down-pos e)),
+)
+  where
+    one : (u d : ℕ) → u * d ≡ 1 → d ≤ 1
+    one zero d h = omega arith
+    one (suc u) d h = omega arith
+fit-parts s (suc m) e h =
+    let A = eqb (suc m % 2) 1 in
+    let B = ltb (suc m) (2 ^ 53) in
+    let C = leb (down e) (2 ^ 1074) in
+    let D = ltb (suc m * up e) (2 ^ 1024 * down e) in
+    (leb→le (down e) (2 ^ 1074) (and-r (A && B) C (and-l (A && B && C) D h)), ltb→lt (suc m * up e) (2 ^ 1024 * down e) (and-r (A && B && C) D h))
+
+pub whole : (x : Float) → T (fits binary64 x) → T (finite x) → HasValue x (negative x) (sizeOf x) (2 ^ 1074)
+unfolding sizeOf negative
+whole nan h f = absurd f
+whole (inf s) h f = absurd f
+whole (fin s m e) h f = (refl, sym (divides m e (fit-parts s m e h .0)))
+
+pub size-lt : (x : Float) → T (fits binary64 x) → sizeOf x < 2 ^ 2098
+unfolding sizeOf
+size-lt nan h = pow-pos 2098
+size-lt (inf s) h = pow-pos 2098
+size-lt (fin s m e) h =
+    div-lt-iff-lt-mul {k = down e} (down-pos e) .1
+    (lt-of-lt-of-le (mul-lt-mul-of-pos-right (fit-parts s m e h .1) (pow-pos 1074)) (le-of-eq (turn (down e))))
+  where
+    turn : (d : ℕ) → 2 ^ 1024 * d * 2 ^ 1074 ≡ 2 ^ 2098 * d
+    turn d = mul-right-comm (2 ^ 1024) d (2 ^ 1074) ∙ ap (λ (n : ℕ). n * d) (sym (pow-add 2 1024 1074))
+
+pub far-below : 2 ^ 2098 ≤ N
+unfolding N
+far-below = pow-mono {i = 2098} {j = 2176} (lit≤ tt)
+
+-- ---- a value and its opposite come to nothing
+neg-sign : (x : Float) → (sizeOf (neg x) ≡ sizeOf x) × (complement (negative (neg x)) (sizeOf x) % N ≡ complement (not (negative x)) (sizeOf x) % N)
+unfolding neg sizeOf negative
+neg-sign nan = (refl, complement-zero false ∙ sym (complement-zero true))
+neg-sign (inf s) = (refl, complement-zero false ∙ sym (complement-zero true))
+neg-sign (fin s m e) = (refl, refl)
+
+both-signs : (s : Bool) (n : ℕ) → n ≤ N → complement s n + complement (not s) n ≡ N
+unfolding complement
+both-signs true n h = omega arith
+both-signs false n h = omega arith
+
+pub opposite : (x : Float) → T (fits binary64 x) → (unitsOf x + unitsOf (neg x)) % N ≡ 0
+unfolding unitsOf
+opposite x h =
+    let a = sizeOf x in
+    let s = negative x in
+    let e : unitsOf (neg x) ≡ complement (not s) a % N = ap (λ (n : ℕ). complement (negative (neg x)) n % N) (neg-sign x .0) ∙ neg-sign x .1 in
+    ap (λ (n : ℕ). (complement s a % N + n) % N) e
+    ∙ sym (add-mod (complement s a) (complement (not s) a) N)
+    ∙ ap (λ (n : ℕ). n % N) (both-signs s a (le-of-lt (lt-of-lt-of-le (size-lt x h) far-below)))
+    ∙ mod-self N
+
+-- so taking a value away is adding what it lacks to N
+pub taken-units : (t : ℕ) (x : Float) → T (fits binary64 x) → takeOf t x ≡ (t + (N - unitsOf x)) % N
+unfolding takeOf unitsOf
+taken-units t x h =
+    let u = unitsOf x in
+    let v = unitsOf (neg x) in
+    let q = (u + v) / N in
+    let z : u + v ≡ N * q = sym (div-add-mod (u + v) N) ∙ ap (λ (n : ℕ). N * q + n) (opposite x h) ∙ add-zero (N * q) in
+    let l : u < N = mod-lt (complement (negative x) (sizeOf x)) N-pos in
+    same-mod (t + v) (t + (N - u)) 1 q (omega arith)
+
+-- and undoes adding it
+pub undone : (t : ℕ) (x : Float) → T (fits binary64 x) → takeOf (addOf t x) x ≡ t % N
+unfolding addOf takeOf
+undone t x h =
+    mod-add-mod (t + unitsOf x) N (unitsOf (neg x))
+    ∙ ap (λ (n : ℕ). n % N) (add-assoc t (unitsOf x) (unitsOf (neg x)))
+    ∙ sym (add-mod-mod t (unitsOf x + unitsOf (neg x)) N)
+    ∙ ap (λ (n : ℕ). (t + n) % N) (opposite x h)
+    ∙ ap (λ (n : ℕ). n % N) (add-zero t)

@@ -16,7 +16,7 @@ sys.path.insert(0, os.path.join(os.path.dirname(os.path.abspath(__file__)), '../
 import program_model as model
 
 FAILED = b'legsheet: the input could not be read to its end'
-LONGEST = 60  # seconds that one run may take
+LONGEST = 20  # seconds that one run may take
 
 
 def legs(seed, rows, lines):
@@ -27,6 +27,15 @@ def legs(seed, rows, lines):
 
 def started(source):
     return subprocess.Popen(PROGRAM, stdin=source, stdout=subprocess.PIPE, stderr=subprocess.PIPE)
+
+
+def ended(run, text=None):
+    """What it printed, and what it wrote to standard error."""
+    try:
+        return run.communicate(text, LONGEST)
+    except subprocess.TimeoutExpired:
+        run.kill()
+        return run.communicate()
 
 
 def waiting(pipe):
@@ -46,10 +55,10 @@ def fed(parts):
         while waiting(out) and run.poll() is None and time.monotonic() < until:
             time.sleep(0)
         if waiting(out):
-            break  # the program ended, or hangs
+            break  # the program ended before its input, or hangs
     os.close(into)
     os.close(out)
-    return run.communicate(timeout=LONGEST)
+    return ended(run)
 
 
 def closed(lines):
@@ -62,7 +71,7 @@ def closed(lines):
     for line in lines:
         os.write(theirs, line)
     os.close(theirs)
-    said = run.communicate(timeout=LONGEST)
+    said = ended(run)
     os.close(ours)
     return said
 
@@ -80,9 +89,9 @@ def runs():
     lines = legs(2, 3, 4000)
     yield 'one line a write, 4,001 reads', fed(lines), model.run(b''.join(lines)), False
     text = b''.join(legs(3, 1024, 80_000))
-    yield 'several megabytes through a pipe', started(subprocess.PIPE).communicate(text, LONGEST), model.run(text), False
+    yield 'several megabytes through a pipe', ended(started(subprocess.PIPE), text), model.run(text), False
     bad = text + b'x\n' + text
-    yield 'a bad line after them', started(subprocess.PIPE).communicate(bad, LONGEST), model.run(bad), False
+    yield 'a bad line after them', ended(started(subprocess.PIPE), bad), model.run(bad), False
     for whole in (0, 1, 2, 3, 300):
         lines = legs(whole, 7, whole)[:whole]
         said = b'input failed after line %d\n' % whole

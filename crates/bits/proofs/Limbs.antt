@@ -8,7 +8,7 @@ use lib.Count.{leadingZeros}
 use lib.Dec.{ltb}
 use lib.Pow.{pow-add, pow-pos, shr-lt, high, low}
 use lib.Ieee.{Float, binary64, round, units}
-use Rattle.laws.specs.laws.Digits.{length, moved, zeros-lt}
+use Rattle.laws.specs.laws.Digits.{leading, moved, zeros-lt}
 use Rattle.bits.specs.Rounded.{Kept, roundedOf}
 use Rattle.bits.specs.Steps.{spare}
 use Rattle.bits.specs.laws.Keeping.{kept-cut, kept-self, kept-scaled}
@@ -17,7 +17,7 @@ use Rattle.bits.specs.laws.Once.{round-shift, with-half}
 -- ---- no zeros above the upper limb: it is the leading 64
 pub no-zeros : (h : ℕ) → 0 < h → h < 2 ^ 64 → leadingZeros 64 h ≡ 0 → 2 ^ 63 ≤ h
 no-zeros h p a e =
-    let w = length h p a in
+    let w = leading h p a in
     let m = moved h (w .0) (leadingZeros 64 h) 64 (w .1) (w .1 .zeros) .0 in
     let q : h * 2 ^ leadingZeros 64 h ≡ h = ap (λ (z : ℕ). h * 2 ^ z) e ∙ mul-one h in
     omega arith
@@ -37,7 +37,7 @@ module _ (h l z : ℕ) (p : 0 < h) (a : h < 2 ^ 64) (b : l < 2 ^ 64) (q : z ≡ 
   as-product = ap (λ (x : ℕ). 2 ^ x) (let y = zeros in let v : 64 ≡ z + (64 - z) = omega arith in v) ∙ pow-add 2 z (64 - z)
 
   up : (2 ^ 64 ≤ h * 2 ^ z * 2) × (h * 2 ^ z + 2 ^ z ≤ 2 ^ 64)
-  up = let w = length h p a in moved h (w .0) z 64 (w .1) (ap (λ (y : ℕ). y + suc (w .0)) q ∙ w .1 .zeros)
+  up = let w = leading h p a in moved h (w .0) z 64 (w .1) (ap (λ (y : ℕ). y + suc (w .0)) q ∙ w .1 .zeros)
 
   come-in : l / 2 ^ (64 - z) < 2 ^ z
   come-in = shr-lt z (64 - z) (lt-of-lt-of-le b (le-of-eq (as-product ∙ sym (pow-add 2 z (64 - z)))))

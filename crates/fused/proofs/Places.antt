@@ -7,7 +7,7 @@ use native.Mathlib.Omega.{arith}
 use lib.Count.{leadingZeros, leading-of-zero}
 use lib.Dec.{lit≤, lit<}
 use lib.Pow.{pow-add, pow-pos}
-use Rattle.laws.specs.laws.Digits.{length, moved, zeros-ge, zeros-lt, mul-lt-pow}
+use Rattle.laws.specs.laws.Digits.{leading, moved, zeros-ge, zeros-lt, mul-lt-pow}
 use Rattle.bits.specs.Wide.{val, Halves}
 use Rattle.fused.specs.Steps.{Lifted, Placed}
 
@@ -40,7 +40,7 @@ is-lifted n e h b q =
     f = lt-of-lt-of-le h (lit≤ tt)
 
     places : (p : 0 < n) → (2 ^ 63 ≤ n * 2 ^ b * 2) × (n * 2 ^ b + 2 ^ b ≤ 2 ^ 63)
-    places p = let w = length n p f in let y = w .1 .zeros in let z = shift-bound n h in moved n (w .0) b 63 (w .1) (let x : b + suc (w .0) ≡ 63 = omega (arith, z .0) in x)
+    places p = let w = leading n p f in let y = w .1 .zeros in let z = shift-bound n h in moved n (w .0) b 63 (w .1) (let x : b + suc (w .0) ≡ 63 = omega (arith, z .0) in x)
 
     below : (n ≡ 0) ⊎ (0 < n) → n * 2 ^ b < 2 ^ 63
     below (inl x) = lt-of-le-of-lt (le-of-eq (ap (λ (y : ℕ). y * 2 ^ b) x ∙ zero-mul (2 ^ b))) (pow-pos 63)

@@ -122,9 +122,6 @@ abbrev pub 44·0 : Float
 abbrev pub 52·0 : Float
 52·0 = float 0x404a_0000_0000_0000
 
-abbrev pub 64·0 : Float
-64·0 = float 0x4050_0000_0000_0000
-
 abbrev pub 88·0 : Float
 88·0 = float 0x4056_0000_0000_0000
 

@@ -14,7 +14,7 @@ use lib.Ieee.Exact.{HasValue}
 use lib.Ieee.Fits.{up-pos, down-pos}
 use lib.Ieee.Nearest.{div-same}
 use lib.Ieee.Scale.{round-same}
-use Rattle.laws.specs.laws.Digits.{length, zeros-lt, zeros-ge, moved}
+use Rattle.laws.specs.laws.Digits.{leading, zeros-lt, zeros-ge, moved}
 use Rattle.bits.specs.Parts.{Decoded, PartsOf}
 use Rattle.bits.specs.Rounded.{roundedOf}
 use Rattle.answer.specs.declared.Answer.the-variants.{One, Refused}
@@ -56,7 +56,7 @@ module _ (digits exponent : ℕ) (pos : 0 < digits) (small : digits < 2 ^ 53) wh
   lead-bounds : (2 ^ 53 ≤ digits * 2 ^ z * 2) × (digits * 2 ^ z < 2 ^ 53)
   unfolding z
   lead-bounds =
-      let l = length digits pos fit in
+      let l = leading digits pos fit in
       let b = zeros-bounds in
       let s = l .1 .zeros in
       let m = moved digits (l .0) z 53 (l .1) (omega arith) in

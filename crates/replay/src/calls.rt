@@ -2,6 +2,7 @@
 use super::script::byte;
 use super::script::hex;
 use super::script::same;
+use super::script::shaped;
 use super::script::word;
 use sheet::Entry;
 ghost use Prim.Native.Nat.{_≤_};
@@ -49,7 +50,17 @@ fn edit(line: &[u8], sheet: &mut [u8]) -> bool {
     sheet::edit(sheet, word(line, 2), entry) == byte(line, 65)
 }
 
+// The row's refusal, then its bytes.
 fn read(line: &[u8], sheet: &[u8]) -> bool {
+    if line.len() < 14 {
+        return false;
+    }
+    if !shaped(&line[0..13], [8, 2, 0, 0, 0, 0]) {
+        return false;
+    }
+    if line[13] != b' ' {
+        return false;
+    }
     let row = word(line, 2);
     if ledger::row_refusal(sheet, row) != byte(line, 11) {
         return false;
@@ -68,12 +79,8 @@ fn total(line: &[u8], sheet: &[u8]) -> bool {
     bits::to_pattern(ledger::total(sheet)) == hex(line, 5, 16)
 }
 
-// Whether the answer is right; a line that is no call is wrong.
-pub(crate) fn call(line: &[u8], sheet: &mut [u8]) -> bool {
-    if line.len() == 0 {
-        return false;
-    }
-    let c = line[0];
+// The calls that write.
+fn write(line: &[u8], sheet: &mut [u8], c: u8) -> bool {
     if c == b'L' {
         fill(sheet, byte(line, 11));
         return true;
@@ -90,17 +97,55 @@ pub(crate) fn call(line: &[u8], sheet: &mut [u8]) -> bool {
     if c == b'P' {
         return poke(sheet, word(line, 2), byte(line, 11));
     }
-    if c == b'R' {
-        return read(line, sheet);
-    }
+    false
+}
+
+// Those that read; a row has its bytes as a field of its own.
+fn check(line: &[u8], sheet: &[u8], c: u8) -> bool {
     if c == b'T' {
         return total(line, sheet);
     }
     if c == b'N' {
         return ledger::count(sheet, byte(line, 2)) == word(line, 5);
     }
-    if c == b'S' {
-        return checksum(sheet) == hex(line, 2, 16);
+    checksum(sheet) == hex(line, 2, 16)
+}
+
+fn reads(c: u8) -> bool {
+    (c == b'T') | (c == b'N') | (c == b'S')
+}
+
+// The widths of the fields after the letter.
+fn widths(c: u8) -> [usize; 6] {
+    if c == b'E' {
+        return [8, 2, 16, 16, 16, 2];
     }
-    false
+    if c == b'T' {
+        return [2, 16, 0, 0, 0, 0];
+    }
+    if c == b'N' {
+        return [2, 8, 0, 0, 0, 0];
+    }
+    if c == b'S' {
+        return [16, 0, 0, 0, 0, 0];
+    }
+    [8, 2, 0, 0, 0, 0]
+}
+
+// Whether the answer is right. A line that is no call is wrong, and so is one whose fields do not read.
+pub(crate) fn call(line: &[u8], sheet: &mut [u8]) -> bool {
+    if line.len() == 0 {
+        return false;
+    }
+    let c = line[0];
+    if c == b'R' {
+        return read(line, sheet);
+    }
+    if !shaped(line, widths(c)) {
+        return false;
+    }
+    if reads(c) {
+        return check(line, sheet, c);
+    }
+    write(line, sheet, c)
 }

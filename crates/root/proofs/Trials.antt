@@ -12,7 +12,7 @@ use lib.Pow.{pow-add, pow-pos, pow-mono}
 use lib.Ieee.{binary64, size, nearest, units}
 use Rattle.laws.specs.laws.Flags.{lt-or-le, some-of, none-of}
 use Rattle.laws.specs.laws.Compare.{compare-is, compare-scaled}
-use Rattle.laws.specs.laws.Digits.{length, moved, size-exact, zeros-ge}
+use Rattle.laws.specs.laws.Digits.{leading, moved, size-exact, zeros-ge}
 use Rattle.bits.specs.Rounded.{roundedOf}
 use Rattle.bits.specs.Steps.{ordOf}
 use Rattle.bits.specs.laws.Once.{kept-round, with-half}
@@ -81,7 +81,7 @@ loop-sizes m i trial rest h l t =
 pub zeros-bound : (n : ℕ) → 0 < n → n < 2 ^ 53 → (11 ≤ leadingZeros 64 n) × (leadingZeros 64 n ≤ 63)
 zeros-bound n p h =
     let f : n < 2 ^ 64 = lt-of-lt-of-le h (let z : 2 ^ 53 ≤ 2 ^ 64 = omega arith in z) in
-    let w = length n p f in
+    let w = leading n p f in
     let z = w .1 .zeros in
     let g = zeros-ge n 53 p f h in
     (omega arith, omega arith)
@@ -98,7 +98,7 @@ powers n e b h k q z =
 pub is-aligned : (n e : ℕ) → 0 < n → n < 2 ^ 53 → e ≤ 2045 → (z b : ℕ) → z ≡ leadingZeros 64 n → b ≡ z - (e + z) % 2 → Aligned n e (n * 2 ^ b % 2 ^ 64) ((e + 1030 - b) / 2)
 is-aligned n e p s l z b q r =
     let f : n < 2 ^ 64 = lt-of-lt-of-le s (let z : 2 ^ 53 ≤ 2 ^ 64 = omega arith in z) in
-    let w = length n p f in
+    let w = leading n p f in
     let x = w .1 .zeros in
     let g = zeros-bound n p s in
     let m = moved n (w .0) b (b + suc (w .0)) (w .1) refl in

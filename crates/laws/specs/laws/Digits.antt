@@ -49,23 +49,23 @@ size-cut n w e q h =
     omega arith
 
 -- ---- the zeros above a number of 64 places: with them moved out its leading digit is the highest place
-pub record Length (n j : ℕ) : Type 0 where
+pub record Leading (n j : ℕ) : Type 0 where
   pub zeros : leadingZeros 64 n + suc j ≡ 64
   pub least : 2 ^ j ≤ n
   pub most : n < 2 ^ suc j
 
-pub length : (n : ℕ) → 0 < n → n < 2 ^ 64 → (j : ℕ) × Length n j
-length n p h = let t = leading-top 64 n p h in (t .0, record { zeros = t .1; least = t .2; most = t .3 })
+pub leading : (n : ℕ) → 0 < n → n < 2 ^ 64 → (j : ℕ) × Leading n j
+leading n p h = let t = leading-top 64 n p h in (t .0, record { zeros = t .1; least = t .2; most = t .3 })
 
 pub zeros-lt : (n : ℕ) → 0 < n → n < 2 ^ 64 → leadingZeros 64 n < 64
-zeros-lt n p h = let w = length n p h in let z = w .1 .zeros in omega arith
+zeros-lt n p h = let w = leading n p h in let z = w .1 .zeros in omega arith
 
 -- a number below 2 ^ k has 64 - k zeros at least
 pub zeros-ge : (n k : ℕ) → 0 < n → n < 2 ^ 64 → n < 2 ^ k → 64 ≤ leadingZeros 64 n + k
-zeros-ge n k p h b = let w = length n p h in let z = w .1 .zeros in let j : w .0 < k = pow-lt-back (w .0) k (lt-of-le-of-lt (w .1 .least) b) in omega arith
+zeros-ge n k p h b = let w = leading n p h in let z = w .1 .zeros in let j : w .0 < k = pow-lt-back (w .0) k (lt-of-le-of-lt (w .1 .least) b) in omega arith
 
 -- moved up to t places: the leading digit is the highest of them, and one more would be 2 ^ t at most
-pub moved : (n j z t : ℕ) → Length n j → z + suc j ≡ t → (2 ^ t ≤ n * 2 ^ z * 2) × (n * 2 ^ z + 2 ^ z ≤ 2 ^ t)
+pub moved : (n j z t : ℕ) → Leading n j → z + suc j ≡ t → (2 ^ t ≤ n * 2 ^ z * 2) × (n * 2 ^ z + 2 ^ z ≤ 2 ^ t)
 moved n j z t w e =
     let lo : 2 ^ (j + z) ≤ n * 2 ^ z = le-trans (le-of-eq (pow-add 2 j z)) (mul-le-mul-right (2 ^ z) (w .least)) in
     let d : 2 ^ t ≡ 2 ^ (j + z) * 2 = ap (λ (x : ℕ). 2 ^ x) (let y : t ≡ j + z + 1 = omega arith in y) ∙ pow-add 2 (j + z) 1 in

@@ -18,10 +18,6 @@ not-nan nan e = absurd (true≢false e)
 not-nan (inf s) e = tt
 not-nan (fin s m e) h = tt
 
-pub finite-not-nan : (x : Float) → T (finite x) → T (not (isNan x))
-unfolding isNan
-finite-not-nan (fin s m e) t = tt
-
 -- `v != v` holds of NaN alone
 level-own : (b : Bool) → T b → not (b && true) ≡ false
 level-own true h = refl

@@ -7,7 +7,7 @@ use Prim.Native.Nat.{ℕ, _≤_, _<_}
 use borrow.Author.Tests.{ne-eqb}
 use lib.Dec.{leb, ltb, eqb}
 use lib.ListN.{length}
-use lib.Ieee.{Float, isNan, ofBits}
+use lib.Ieee.{isNan, ofBits}
 use Rattle.laws.specs.Arithmetic.{+0}
 use Rattle.answer.specs.declared.Answer.{Answer}
 use Rattle.answer.specs.declared.Answer.the-variants.{One, Pair, Infinite, Refused}

@@ -18,7 +18,7 @@ use Rattle.ledger.specs.Sheet.{Row, mostRows, encode}
 use Rattle.ledger.specs.Calls.{totalIn, blankRefusal, blankOf, totalRefusal, totalOf}
 use Rattle.ledger.specs.laws.Refusals.{makeable}
 use Rattle.sheet.specs.declared.Entry.{Entry}
-use Rattle.sheet.specs.Edit.{rowOf, editRefusal, editOf}
+use Rattle.sheet.specs.Edit.{rowOf, editOf}
 use Rattle.sheet.specs.laws.Stored.{Says, says}
 use Rattle.demands.specs.Edits.{Edit, answer, after, run, answerIn, fresh, blanks, AllWorked, above, below, Elsewhere}
 use Rattle.demands.specs.laws.Encoded.{answers, given, total-is}

@@ -1,14 +1,13 @@
 -- WHAT IS ENTERED IS WHAT IS PRINTED. A row count and a list of edits, each written as a line: where every edit is accepted, the page is that of the rows worked
 -- out afresh from the last edit of each row, with their counts and exact total, as demand 3 says; else the number of the first line that is refused. Assumes nothing.
-use mathlib.Core.Path.{_≡_, refl, sym, ap, _∙_}
-use Prim.Native.Nat.{ℕ, suc, _+_, _^_, _≤_, _<_}
+use mathlib.Core.Path.{_≡_, refl, ap, _∙_}
+use Prim.Native.Nat.{ℕ, suc, _+_, _≤_, _<_}
 use native.Mathlib.Omega.{arith}
 use mathlib.Core.Bool.{Bool, true, false, cond}
 use mathlib.Core.List.{List, [], _∷_, _++_, append-assoc, append-nil}
 use lib.Dec.{eqb}
 use lib.ListN.{length-replicate}
 use borrow.Author.Tests.{le-ltb, eq-eqb, ne-eqb}
-use Rattle.laws.specs.Ladder.{when_gives_else_}
 use Rattle.line.specs.Line.{decimalOf, cut, lineOf}
 use Rattle.ledger.specs.Sheet.{mostRows, sizeFor, blankRow, encode}
 use Rattle.ledger.specs.Calls.{blankRefusal, blankOf}

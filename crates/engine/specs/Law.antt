@@ -2,28 +2,29 @@
 -- 01's "The program reads standard input". `startOf`, `feedOf`, `finishOf` and `printOf` are the definitions that the contracts of the calls
 -- `start`, `feed`, `finish` and `print` cite, so this speaks of what the code does between a read and a write. Assumes nothing.
 use mathlib.Core.Path.{_≡_, refl, sym, ap, _∙_}
-use Prim.Native.Nat.{ℕ, _+_, _^_, _≤_, _<_}
+use Prim.Native.Nat.{ℕ, _+_, _^_, _<_}
 use native.Mathlib.Nat.{zero-add}
 use mathlib.Core.Bool.{true}
 use mathlib.Core.List.{List, [], _∷_, _++_}
 use lib.ListN.{length, take, drop}
 use lib.Seq.{take-at}
 use Rattle.page.specs.Writing.{Put}
+use Rattle.page.specs.Page.{largest}
 use Rattle.engine.specs.declared.State.{State}
 use Rattle.engine.specs.Run.{joined, zeros, runOf}
-use Rattle.engine.specs.Machine.{Room, room, startOf, feedOf, feedAll, finishOf, printOf, outputOf}
+use Rattle.engine.specs.Machine.{longest, Room, room, startOf, feedOf, feedAll, finishOf, printOf, outputOf}
 use Rattle.engine.specs.laws.Whole.{run-law, stop-law}
 
 -- for fewer than 2^64 bytes, from zeroed memory for the sheet, and whatever the line's 72 bytes hold
-pub program-law : (parts : List (List ℕ)) (line : List ℕ) → length line ≡ 72 → length (joined parts) < 2 ^ 64
-    → let end = finishOf (feedAll (room startOf line (zeros 49480)) parts) in
+pub program-law : (parts : List (List ℕ)) (line : List ℕ) → length line ≡ longest → length (joined parts) < 2 ^ 64
+    → let end = finishOf (feedAll (room startOf line (zeros largest)) parts) in
     printOf (end .st) (end .sheet) ≡ runOf (joined parts)
 unfolding outputOf
 program-law parts line l few = run-law line l parts few
 
 -- and once a line was bad, whatever is left may stay unread
-pub stopped-law : (parts : List (List ℕ)) (rest line : List ℕ) → length line ≡ 72 → length (joined parts ++ rest) < 2 ^ 64
-    → let read = feedAll (room startOf line (zeros 49480)) parts in
+pub stopped-law : (parts : List (List ℕ)) (rest line : List ℕ) → length line ≡ longest → length (joined parts ++ rest) < 2 ^ 64
+    → let read = feedAll (room startOf line (zeros largest)) parts in
     let end = finishOf read in
     read .st .bad ≡ true → printOf (end .st) (end .sheet) ≡ runOf (joined parts ++ rest)
 unfolding outputOf
@@ -41,8 +42,8 @@ unfolding feedAll
 fed-all none = refl
 fed-all (more {ps = ps} e f) = fed-all f ∙ ap (λ (v : Room). feedAll v ps) e
 
-pub fed-law : {parts : List (List ℕ)} {line : List ℕ} {w : Room} → length line ≡ 72 → length (joined parts) < 2 ^ 64
-    → Fed (room startOf line (zeros 49480)) parts w → outputOf w ≡ runOf (joined parts)
+pub fed-law : {parts : List (List ℕ)} {line : List ℕ} {w : Room} → length line ≡ longest → length (joined parts) < 2 ^ 64
+    → Fed (room startOf line (zeros largest)) parts w → outputOf w ≡ runOf (joined parts)
 fed-law {parts = parts} {line = line} l few feeds = ap outputOf (fed-all feeds) ∙ run-law line l parts few
 
 -- what was put at the start of a buffer stands there
@@ -53,9 +54,9 @@ front {out = out} {text = text} {n = n} put =
 
 -- so the text that print put at the start of its buffer is the run's
 pub calls-law : {parts : List (List ℕ)} {line : List ℕ} {st : State} {w end : Room} {out page : List ℕ} {n : ℕ}
-    → length line ≡ 72 → length (joined parts) < 2 ^ 64
+    → length line ≡ longest → length (joined parts) < 2 ^ 64
     → st ≡ startOf
-    → Fed (room st line (zeros 49480)) parts w
+    → Fed (room st line (zeros largest)) parts w
     → end ≡ finishOf w
     → Put out page 0 n (printOf (end .st) (end .sheet))
     → take n page ≡ runOf (joined parts)

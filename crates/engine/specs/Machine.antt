@@ -19,6 +19,10 @@ use Rattle.engine.specs.Run.{entry}
 
 -- ---- what a run holds
 
+-- the longest line that is no bad one for its length alone (line::LONGEST)
+abbrev pub longest : ℕ
+longest = 72
+
 -- the state and the sheet's memory
 pub record Held : Type 0 where
   pub st : State
@@ -74,7 +78,7 @@ takeLine st s m =
 unfoldable pub endOf : Room → Room
 endOf w =
     let after = takeLine (w .st) (take (w .st .held) (w .line)) (w .sheet) in
-    when ltb 72 (w .st .held) gives room (between (lineNumber (w .st)) (w .st .size) true) (w .line) (w .sheet) else
+    when ltb longest (w .st .held) gives room (between (lineNumber (w .st)) (w .st .size) true) (w .line) (w .sheet) else
     room (after .st) (w .line) (after .sheet)
 
 -- one more byte of the line is held
@@ -84,7 +88,7 @@ longerOf st = record { lines = st .lines; held = st .held + 1; size = st .size; 
 -- another byte joins the line held; of a long line only its first 72 bytes are kept
 unfoldable pub joinOf : Room → ℕ → Room
 joinOf w b =
-    when ltb 72 (w .st .held) gives w else
+    when ltb longest (w .st .held) gives w else
     room (longerOf (w .st)) (set (w .line) (w .st .held) b) (w .sheet)
 
 -- nothing is read after a bad line

@@ -10,7 +10,8 @@ use page::ROOM;
 ghost use mathlib.Core.Path.{_≡_};
 ghost use Prim.Native.Nat.{_≤_};
 ghost use lib.ListN.{length};
-ghost use Rattle.engine.specs.Machine.{room, startOf, longerOf, stepOf, feedOf, finishOf, printOf};
+ghost use Rattle.page.specs.Page.{largest};
+ghost use Rattle.engine.specs.Machine.{longest, room, startOf, longerOf, stepOf, feedOf, finishOf, printOf};
 ghost use Rattle.page.specs.Writing.{Put};
 
 // How many lines were taken, how many bytes of the next are held (73: too many), the sheet's bytes, and whether the last line was bad.
@@ -29,7 +30,7 @@ pub fn start() -> State
 
 // One more byte of a line is held; the 73rd stands for all that follow.
 fn longer(st: State) -> State
-    requires { ⌜ st .held ≤ 72 ⌝ }
+    requires { ⌜ st .held ≤ longest ⌝ }
     ensures { λ r. ⌜ r ≡ longerOf st ⌝ }
 {
     State {
@@ -42,7 +43,7 @@ fn longer(st: State) -> State
 
 // One byte of the input.
 fn step(st: State, b: u8, line: &mut [u8], sheet: &mut [u8]) -> State
-    requires { ⌜ (length (now line) ≡ 72) × (length (now sheet) ≡ 49480) ⌝ }
+    requires { ⌜ (length (now line) ≡ longest) × (length (now sheet) ≡ largest) ⌝ }
     ensures { λ r. ⌜ room r (now (line .exit)) (now (sheet .exit)) ≡ stepOf (room st (now (line .entry)) (now (sheet .entry))) b ⌝ }
 {
     if st.bad {
@@ -67,7 +68,7 @@ fn step(st: State, b: u8, line: &mut [u8], sheet: &mut [u8]) -> State
 }
 
 fn steps(st: State, part: &[u8], line: &mut [u8], sheet: &mut [u8]) -> State
-    requires { ⌜ (length (now line) ≡ 72) × (length (now sheet) ≡ 49480) ⌝ }
+    requires { ⌜ (length (now line) ≡ longest) × (length (now sheet) ≡ largest) ⌝ }
     ensures { λ r. ⌜ room r (now (line .exit)) (now (sheet .exit)) ≡ feedOf (room st (now (line .entry)) (now (sheet .entry))) (now (part .entry)) ⌝ }
 {
     let mut now = st;
@@ -80,7 +81,7 @@ fn steps(st: State, part: &[u8], line: &mut [u8], sheet: &mut [u8]) -> State
 }
 
 fn last(st: State, line: &mut [u8], sheet: &mut [u8]) -> State
-    requires { ⌜ (length (now line) ≡ 72) × (length (now sheet) ≡ 49480) ⌝ }
+    requires { ⌜ (length (now line) ≡ longest) × (length (now sheet) ≡ largest) ⌝ }
     ensures { λ r. ⌜ room r (now (line .exit)) (now (sheet .exit)) ≡ finishOf (room st (now (line .entry)) (now (sheet .entry))) ⌝ }
 {
     if (st.held == 0) & (st.lines != 0) {

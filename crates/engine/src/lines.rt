@@ -1,5 +1,6 @@
 // One whole line: the row count or an edit, and the call that it asks for.
 use crate::State;
+use ledger::MOST_ROWS;
 use line::Line;
 use line::Number;
 use sheet::Entry;
@@ -7,6 +8,7 @@ ghost use mathlib.Core.Path.{_≡_};
 ghost use Prim.Native.Nat.{min};
 ghost use lib.ListN.{length};
 ghost use Rattle.line.specs.Line.{decimalOf, lineOf};
+ghost use Rattle.page.specs.Page.{largest};
 ghost use Rattle.engine.specs.Machine.{held, countLine, editLine, takeLine};
 ghost use Rattle.engine.specs.Machine.{between as Machine·between};
 
@@ -34,13 +36,13 @@ pub(crate) fn between(lines: u64, size: usize, bad: bool) -> State
 
 // Line k is the row count.
 fn count_line(k: u64, s: &[u8], sheet: &mut [u8]) -> State
-    requires { ⌜ length (now sheet) ≡ 49480 ⌝ }
+    requires { ⌜ length (now sheet) ≡ largest ⌝ }
     ensures { λ r. ⌜ held r (now (sheet .exit)) ≡ countLine k (now (sheet .entry)) (decimalOf (now (s .entry))) ⌝ }
 {
     let Number::Value(rows) = line::read_count(s) else {
         return between(k, 0, true);
     };
-    if 1024 < rows {
+    if (MOST_ROWS as u64) < rows {
         return between(k, 0, true);
     }
     let n = ledger::size_for(rows as u32);
@@ -68,7 +70,7 @@ fn edit_line(k: u64, size: usize, s: &[u8], sheet: &mut [u8]) -> State
 }
 
 pub(crate) fn take_line(st: State, s: &[u8], sheet: &mut [u8]) -> State
-    requires { ⌜ length (now sheet) ≡ 49480 ⌝ }
+    requires { ⌜ length (now sheet) ≡ largest ⌝ }
     ensures { λ r. ⌜ held r (now (sheet .exit)) ≡ takeLine st (now (s .entry)) (now (sheet .entry)) ⌝ }
 {
     let k = std::num::wrapping_add_u64(st.lines, 1);

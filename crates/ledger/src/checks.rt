@@ -7,6 +7,7 @@ use super::row::share_of;
 use super::row::words_sound;
 use super::totals::read_counts;
 use super::totals::sum;
+use crate::MOST_ROWS;
 use crate::rows_in;
 use crate::size_for;
 use answer::LAST;
@@ -15,12 +16,12 @@ ghost use mathlib.Core.Bool.{true};
 ghost use Prim.Native.Nat.{_+_, _*_, _≤_, _<_};
 ghost use lib.ListN.{length};
 ghost use Rattle.ledger.specs.Bytes.{read, fields};
-ghost use Rattle.ledger.specs.Sheet.{entries, sound};
+ghost use Rattle.ledger.specs.Sheet.{mostRows, entries, sound};
 ghost use Rattle.ledger.specs.Calls.{Sized, rowsIn, rowIn, equal, isSheet, miscounted, damaged, rowRefusal, placeRefusal};
 
 // Kind, place, length and how many, of the rows and of the totals.
 pub(crate) fn contents(rows: u32) -> [u32; 8]
-    requires { ⌜ rows ≤ 1024 ⌝ }
+    requires { ⌜ rows ≤ mostRows ⌝ }
     ensures { λ r. ⌜ r ≡ entries rows ⌝ }
 {
     [1, 32, 48 * rows, rows, 2, 32 + 48 * rows, 296, 1]
@@ -44,7 +45,7 @@ pub(crate) fn is_sheet(s: &[u8]) -> bool
     ensures { λ r. ⌜ r ≡ isSheet (now (s .entry)) ⌝ }
 {
     let rows = rows_in(s);
-    if rows > 1024 {
+    if rows > MOST_ROWS {
         return false;
     }
     if s.len() != size_for(rows as u32) {

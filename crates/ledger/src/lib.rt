@@ -21,13 +21,16 @@ ghost use mathlib.Core.Bool.{false};
 ghost use Prim.Native.Nat.{_+_, _*_, _≤_, _<_};
 ghost use lib.ListN.{length};
 ghost use Rattle.ledger.specs.Bytes.{fields};
-ghost use Rattle.ledger.specs.Sheet.{sizeFor, rowPlace, classOf};
+ghost use Rattle.ledger.specs.Sheet.{mostRows, sizeFor, rowPlace, classOf};
 ghost use Rattle.ledger.specs.Calls.{Sized, rowsIn, blankRefusal, blankOf, damaged, edited, placeRefusal, placeOf, rowRefusal, readOf, soundRow, classIn, totalRefusal, totalOf, countOf};
 
 mod bytes;
 mod checks;
 mod row;
 mod totals;
+
+// The most rows of a sheet.
+pub const MOST_ROWS: usize = 1024;
 
 // How many bytes a sheet of so many rows has.
 pub fn size_for(rows: u32) -> usize
@@ -69,7 +72,7 @@ fn paired(xs: [u32; 8]) -> [u64; 4]
 pub fn make_blank(sheet: &mut [u8], rows: u32) -> u8
     ensures { λ r. ⌜ (r ≡ blankRefusal (now (sheet .entry)) rows) × (now (sheet .exit) ≡ blankOf (now (sheet .entry)) rows) ⌝ }
 {
-    if rows > 1024 {
+    if rows as usize > MOST_ROWS {
         return 11;
     }
     if sheet.len() != size_for(rows) {
@@ -83,7 +86,7 @@ pub fn make_blank(sheet: &mut [u8], rows: u32) -> u8
 
 // A row's words in place of what stands there, and the totals revised.
 fn store(sheet: &mut [u8], row: u32, words: [u64; 6])
-    requires { ⌜ Sized (now sheet) × (rowsIn (now sheet) ≤ 1024) × (row < rowsIn (now sheet)) × (damaged (now sheet) row ≡ false) × (classOf (fields 8 words) < 5) ⌝ }
+    requires { ⌜ Sized (now sheet) × (rowsIn (now sheet) ≤ mostRows) × (row < rowsIn (now sheet)) × (damaged (now sheet) row ≡ false) × (classOf (fields 8 words) < 5) ⌝ }
     ensures { λ _. ⌜ now (sheet .exit) ≡ edited (now (sheet .entry)) row (fields 8 words) ⌝ }
 {
     let old = share_of(row_part(sheet, row));

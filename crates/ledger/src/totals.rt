@@ -8,11 +8,11 @@ use super::row::Share;
 use total::Total;
 ghost use mathlib.Core.Path.{_≡_};
 ghost use Prim.Native.Nat.{_+_, _*_, _≤_, _<_};
-ghost use lib.ListN.{length, drop, getD};
+ghost use lib.ListN.{length, getD};
 ghost use mathlib.Core.List.{[], _∷_, _++_};
 ghost use Rattle.total.specs.Total.{val, limbsOf, addOf, takeOf};
 ghost use Rattle.ledger.specs.Bytes.{number, fields, splice};
-ghost use Rattle.ledger.specs.Sheet.{Row, rowPlace, classOf, valueOf};
+ghost use Rattle.ledger.specs.Sheet.{Row, mostRows, rowPlace, classOf, valueOf};
 ghost use Rattle.ledger.specs.Calls.{Sized, rowsIn, countsIn, totalIn, plus, recount, revised};
 
 // Where the totals start: they are the last 296 bytes.
@@ -69,7 +69,7 @@ pub(crate) fn read_total(s: &[u8]) -> [u64; 34]
 
 // One less of the old class, one more of the new, two counts to a word; the four bytes after the counts are zero.
 fn recounted(counts: [u32; 5], old: usize, new: usize) -> [u64; 3]
-    requires { ⌜ (old < 5) × (new < 5) × (0 < getD counts old 0) × (plus counts ≤ 1024) ⌝ }
+    requires { ⌜ (old < 5) × (new < 5) × (0 < getD counts old 0) × (plus counts ≤ mostRows) ⌝ }
     ensures { λ r. ⌜ fields 8 r ≡ fields 4 (recount counts old new ++ (0 ∷ [])) ⌝ }
 {
     let mut c = counts;
@@ -97,7 +97,7 @@ fn write_totals(s: &mut [u8], counts: [u64; 3], limbs: [u64; 34])
 
 // An old row's share taken out of the totals, and a new row's put in.
 pub(crate) fn revise(sheet: &mut [u8], old: Share, new: Share)
-    requires { ⌜ Sized (now sheet) × (old .class < 5) × (new .class < 5) × (0 < getD (countsIn (now sheet)) (old .class) 0) × (plus (countsIn (now sheet)) ≤ 1024) ⌝ }
+    requires { ⌜ Sized (now sheet) × (old .class < 5) × (new .class < 5) × (0 < getD (countsIn (now sheet)) (old .class) 0) × (plus (countsIn (now sheet)) ≤ mostRows) ⌝ }
     ensures { λ _. ⌜ ((o n : Row) → (old .class ≡ classOf o) × (old .value ≡ valueOf o) → (new .class ≡ classOf n) × (new .value ≡ valueOf n) → now (sheet .exit) ≡ splice (now (sheet .entry)) (rowPlace (rowsIn (now (sheet .entry)))) (revised (now (sheet .entry)) o n)) ⌝ }
 {
     let from = totals_place(sheet);

@@ -1,6 +1,6 @@
 -- What the program prints (01, "it prints exactly"). Definitions only.
 use Prim.Native.Nat.{ℕ, zero, suc}
-use mathlib.Core.List.{List, [], _∷_, _++_}
+use mathlib.Core.List.{List, [], _++_}
 use lib.ListN.{length, take, drop, getD}
 use lib.Dec.{ltb, eqb}
 use lib.Ieee.{binary64, toBits}
@@ -55,10 +55,14 @@ totalLine s = ascii "total " ++ pattern (toBits binary64 (totalOf s)) ++ end
 
 -- ---- the page
 
+-- the bytes of the largest sheet
+abbrev pub largest : ℕ
+largest = sizeFor mostRows
+
 -- all rows, the counts, the total; nothing for more bytes than the largest sheet has
 unfoldable pub pageOf : List ℕ → List ℕ
 pageOf s =
-    when ltb (sizeFor mostRows) (length s) gives [] else
+    when ltb largest (length s) gives [] else
     rowLines s (rowsIn s) ++ countsLine s ++ totalLine s
 
 -- ---- instead of the page

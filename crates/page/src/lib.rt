@@ -10,9 +10,10 @@ ghost use mathlib.Core.Path.{_≡_};
 ghost use mathlib.Core.List.{_++_};
 ghost use Prim.Native.Nat.{_+_, _*_, _≤_};
 ghost use lib.ListN.{length};
+ghost use Rattle.ledger.specs.Sheet.{mostRows};
 ghost use Rattle.ledger.specs.Calls.{rowsIn};
 ghost use Rattle.page.specs.Text.{decimal, end};
-ghost use Rattle.page.specs.Page.{rowLines, countFields, countsLine, totalLine, pageOf, badLine, failedLine};
+ghost use Rattle.page.specs.Page.{largest, rowLines, countFields, countsLine, totalLine, pageOf, badLine, failedLine};
 ghost use Rattle.page.specs.Writing.{Put};
 
 // The bytes of the largest sheet, 1,024 rows.
@@ -23,7 +24,7 @@ pub const ROOM: usize = 49280;
 
 // The lines of the first rows.
 fn put_rows(out: &mut [u8], sheet: &[u8], rows: u32) -> usize
-    requires { ⌜ (rows ≤ 1024) × (length (now out) ≡ 49280) ⌝ }
+    requires { ⌜ (rows ≤ mostRows) × (length (now out) ≡ 49280) ⌝ }
     ensures { λ r. ⌜ Put (now (out .entry)) (now (out .exit)) 0 r (rowLines (now (sheet .entry)) rows) ⌝ }
     ensures { λ r. ⌜ r ≤ 48 * rows ⌝ }
 {
@@ -75,14 +76,14 @@ fn put_total_line(out: &mut [u8], at: usize, sheet: &[u8]) -> usize
 
 // No more rows than a sheet may have.
 fn row_count(sheet: &[u8]) -> u32
-    requires { ⌜ length (now sheet) ≤ 49480 ⌝ }
-    ensures { λ r. ⌜ (r ≡ rowsIn (now (sheet .entry))) × (r ≤ 1024) ⌝ }
+    requires { ⌜ length (now sheet) ≤ largest ⌝ }
+    ensures { λ r. ⌜ (r ≡ rowsIn (now (sheet .entry))) × (r ≤ mostRows) ⌝ }
 {
     ledger::rows_in(sheet) as u32
 }
 
 fn put_sheet(out: &mut [u8], sheet: &[u8]) -> usize
-    requires { ⌜ (length (now sheet) ≤ 49480) × (length (now out) ≡ 49280) ⌝ }
+    requires { ⌜ (length (now sheet) ≤ largest) × (length (now out) ≡ 49280) ⌝ }
     ensures { λ r. ⌜ Put (now (out .entry)) (now (out .exit)) 0 r (pageOf (now (sheet .entry))) ⌝ }
     ensures { λ r. ⌜ r ≤ length (now (out .exit)) ⌝ }
 {

@@ -5,6 +5,7 @@ ghost use mathlib.Core.Path.{_≡_};
 ghost use Prim.Native.Nat.{_+_, _≤_, _<_};
 ghost use lib.ListN.{length};
 ghost use Rattle.ledger.specs.Bytes.{number};
+ghost use Rattle.ledger.specs.Sheet.{mostRows};
 ghost use Rattle.page.specs.Page.{headText, answersText, rowText, rowLine};
 ghost use Rattle.page.specs.Writing.{Put};
 
@@ -30,7 +31,7 @@ fn word(s: &[u8]) -> u64
 
 // Row, function and refusal number, each with a space after it.
 fn put_head(out: &mut [u8], at: usize, i: u32, function: u8, refusal: u8) -> usize
-    requires { ⌜ (at + 13 ≤ length (now out)) × (i < 1024) ⌝ }
+    requires { ⌜ (at + 13 ≤ length (now out)) × (i < mostRows) ⌝ }
     ensures { λ r. ⌜ Put (now (out .entry)) (now (out .exit)) at r (headText i function refusal) ⌝ }
     ensures { λ r. ⌜ r ≤ at + 13 ⌝ }
 {
@@ -51,7 +52,7 @@ fn put_answers(out: &mut [u8], at: usize, first: u64, second: u64) -> usize
 
 // The line of a row that was read.
 fn put_text(out: &mut [u8], at: usize, i: u32, row: &[u8]) -> usize
-    requires { ⌜ (at + 48 ≤ length (now out)) × (i < 1024) × (length (now row) ≡ 48) ⌝ }
+    requires { ⌜ (at + 48 ≤ length (now out)) × (i < mostRows) × (length (now row) ≡ 48) ⌝ }
     ensures { λ r. ⌜ Put (now (out .entry)) (now (out .exit)) at r (rowText i (now (row .entry))) ⌝ }
     ensures { λ r. ⌜ r ≤ at + 48 ⌝ }
 {
@@ -63,7 +64,7 @@ fn put_text(out: &mut [u8], at: usize, i: u32, row: &[u8]) -> usize
 
 // The line of row i.
 pub(crate) fn put_row(out: &mut [u8], at: usize, sheet: &[u8], i: u32) -> usize
-    requires { ⌜ (at + 48 ≤ length (now out)) × (i < 1024) ⌝ }
+    requires { ⌜ (at + 48 ≤ length (now out)) × (i < mostRows) ⌝ }
     ensures { λ r. ⌜ Put (now (out .entry)) (now (out .exit)) at r (rowLine (now (sheet .entry)) i) ⌝ }
     ensures { λ r. ⌜ r ≤ at + 48 ⌝ }
 {

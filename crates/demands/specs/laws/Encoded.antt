@@ -13,8 +13,8 @@ use Rattle.answer.specs.Numbers.{last}
 use Rattle.total.specs.Total.{N}
 use Rattle.total.specs.laws.Limbs.{N-pos}
 use Rattle.ledger.specs.Bytes.{bytes, number, fields, read, splice}
-use Rattle.ledger.specs.Sheet.{Row, rowPlace, sizeFor, entries, classOf, sound, retotal, totals, count, counts, sum, flat, encode}
-use Rattle.ledger.specs.Calls.{rowsIn, rowIn, countsIn, totalIn, equal, isSheet, miscounted, damaged, rungs, totalRefusal, recount, revised, edited}
+use Rattle.ledger.specs.Sheet.{Row, rowPlace, sizeFor, entries, classOf, sound, totals, count, counts, sum, flat, encode}
+use Rattle.ledger.specs.Calls.{rowsIn, rowIn, countsIn, totalIn, equal, isSheet, miscounted, damaged, rungs, totalRefusal, revised, edited}
 use Rattle.sheet.specs.Edit.{editRefusal}
 use Rattle.ledger.specs.laws.Fields.{take-past, drop-past, length-bytes, length-fields, number-bytes, read-fields, fields-append}
 use Rattle.ledger.specs.laws.Refusals.{rows-of, class-lt, length-totals}

@@ -3,7 +3,8 @@ use mathlib.Core.Path.{_≡_, refl, sym, ap, _∙_}
 use Prim.Native.Nat.{_+_, _-_, _≤_}
 use native.Mathlib.Omega.{arith}
 use lib.ListN.{length, drop}
-use Rattle.engine.specs.Machine.{Room, room, feedOf}
+use Rattle.page.specs.Page.{largest}
+use Rattle.engine.specs.Machine.{longest, Room, room, feedOf}
 use Rattle.engine.specs.laws.Steps.{feed-next, feed-end}
 use Rattle.engine.proofs.steps.Statement.{statement}
 use Rattle.engine.proofs.steps.Tie as tie
@@ -11,7 +12,7 @@ use Rattle.engine.proofs.steps.Tie as tie
 abbrev Inv-loop : tie.InvT-loop
 Inv-loop part line₀ sheet₀ now₀ i₀ line sheet now i =
     (feedOf (room now line sheet) (drop i part) ≡ feedOf (room now₀ line₀ sheet₀) part)
-    × (i ≤ length part) × (length line ≡ 72) × (length sheet ≡ 49480)
+    × (i ≤ length part) × (length line ≡ longest) × (length sheet ≡ largest)
 
 abbrev μ-loop : tie.MeasureT-loop
 μ-loop part line₀ sheet₀ now₀ i₀ line sheet now i = length part - i

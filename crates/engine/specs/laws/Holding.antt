@@ -25,9 +25,10 @@ use Rattle.demands.specs.laws.Encoded.{length-encode}
 use Rattle.demands.specs.laws.Runs.{rows-worked, blanks-worked}
 use Rattle.demands.specs.Demand3.{elsewhere}
 use Rattle.sheet.specs.declared.Entry.{Entry}
+use Rattle.page.specs.Page.{largest}
 use Rattle.engine.specs.declared.State.{State}
 use Rattle.engine.specs.Run.{Outcome, Start, Sheet, Bad, zeros, countOn, entry, editOn, lineOn, printed}
-use Rattle.engine.specs.Machine.{Held, Room, held, room, between, onPart, lineNumber, countLine, editLine, takeLine, longerOf, stepOf, printOf}
+use Rattle.engine.specs.Machine.{longest, Held, Room, held, room, between, onPart, lineNumber, countLine, editLine, takeLine, longerOf, stepOf, printOf}
 use Rattle.engine.specs.laws.Steps.{step-idle, step-long, step-line, step-over, step-more}
 
 -- ---- what is held
@@ -36,19 +37,19 @@ use Rattle.engine.specs.laws.Steps.{step-idle, step-long, step-line, ste
 pub record Open (w : Room) (k : ℕ) (p : List ℕ) : Type 0 where
   pub good : w .st .bad ≡ false
   pub lines : w .st .lines ≡ k
-  pub buffer : length (w .line) ≡ 72
-  pub short : length p ≤ 72 → (w .st .held ≡ length p) × (take (length p) (w .line) ≡ p)
-  pub long : 72 < length p → 72 < w .st .held
+  pub buffer : length (w .line) ≡ longest
+  pub short : length p ≤ longest → (w .st .held ≡ length p) × (take (length p) (w .line) ≡ p)
+  pub long : longest < length p → longest < w .st .held
 
 -- the sheet s stands at the front of the memory
 pub record Stored (s : List ℕ) (st : State) (m : List ℕ) : Type 0 where
   pub size : st .size ≡ length s
-  pub whole : length m ≡ 49480
-  pub fits : length s ≤ 49480
+  pub whole : length m ≡ largest
+  pub fits : length s ≤ largest
   pub bytes : take (length s) m ≡ s
 
 abbrev pub Holds : Room → ℕ → Outcome → List ℕ → Type 0
-Holds w k Start p = Open w k p × (k ≡ 0) × (w .sheet ≡ zeros 49480)
+Holds w k Start p = Open w k p × (k ≡ 0) × (w .sheet ≡ zeros largest)
 Holds w k (Sheet s) p = Open w k p × (0 < k) × Stored s (w .st) (w .sheet)
 Holds w k (Bad j) p = (w .st .bad ≡ true) × (w .st .lines ≡ j)
 
@@ -79,7 +80,7 @@ length-edit : (s : List ℕ) (row : ℕ) (e : Entry) → length (editOf s row e)
 length-edit s row e = elsewhere s (record { row = row; entry = e }) .0
 
 -- a call that keeps the sheet's length stores what it makes
-pub part-stored : (st : State) (m : List ℕ) (n : ℕ) (f : List ℕ → List ℕ) → n ≤ 49480 → length m ≡ 49480 → st .size ≡ n
+pub part-stored : (st : State) (m : List ℕ) (n : ℕ) (f : List ℕ → List ℕ) → n ≤ largest → length m ≡ largest → st .size ≡ n
     → length (f (take n m)) ≡ length (take n m) → Stored (f (take n m)) st (onPart n f m)
 unfolding onPart
 part-stored st m n f h whole size keep =
@@ -94,26 +95,26 @@ part-stored st m n f h whole size keep =
 -- ---- one line
 
 -- between two lines nothing of the next is held
-pub open-between : (k n : ℕ) (line m : List ℕ) → length line ≡ 72 → Open (room (between k n false) line m) k []
+pub open-between : (k n : ℕ) (line m : List ℕ) → length line ≡ longest → Open (room (between k n false) line m) k []
 open-between k n line m l = record { good = refl; lines = refl; buffer = l; short = λ h. (refl, refl); long = λ h. omega arith }
 
 -- the machine's call for a line and the run's agree
-module _ (line : List ℕ) (buffer : length line ≡ 72) where
-  call-holds : (k n : ℕ) (m : List ℕ) (f : List ℕ → List ℕ) → n ≤ 49480 → length m ≡ 49480 → length (f (take n m)) ≡ length (take n m) → (t : Bool)
+module _ (line : List ℕ) (buffer : length line ≡ longest) where
+  call-holds : (k n : ℕ) (m : List ℕ) (f : List ℕ → List ℕ) → n ≤ largest → length m ≡ largest → length (f (take n m)) ≡ length (take n m) → (t : Bool)
       → Holds (room (between (suc k) n (not t)) line (onPart n f m)) (suc k) (cond t (Sheet (f (take n m))) (Bad (suc k))) []
   call-holds k n m f h whole keep true =
       (open-between (suc k) n line (onPart n f m) buffer, omega arith, part-stored (between (suc k) n false) m n f h whole refl keep)
   call-holds k n m f h whole keep false = (refl, refl)
 
-  count-holds : (m : List ℕ) → m ≡ zeros 49480 → (x : Number) → Holds (room (countLine 1 m x .st) line (countLine 1 m x .sheet)) 1 (countOn x) []
+  count-holds : (m : List ℕ) → m ≡ zeros largest → (x : Number) → Holds (room (countLine 1 m x .st) line (countLine 1 m x .sheet)) 1 (countOn x) []
   unfolding countLine countOn
   count-holds m e Not = (refl, refl)
   count-holds m e (Value r) =
       below 1024 r
       (λ h. simp (lt-ltb 1024 r h) (refl, refl))
       (λ h.
-      let whole : length m ≡ 49480 = ap length e ∙ length-zeros 49480 in
-      let part : take (sizeFor r) m ≡ zeros (sizeFor r) = rw e (take-zeros (sizeFor r) 49480 (omega arith)) in
+      let whole : length m ≡ largest = ap length e ∙ length-zeros largest in
+      let part : take (sizeFor r) m ≡ zeros (sizeFor r) = rw e (take-zeros (sizeFor r) largest (omega arith)) in
       simp (le-ltb 1024 r h)
       (rw (← part)
       (call-holds 0 (sizeFor r) m (λ s. blankOf s r) (omega arith) whole (length-blank (take (sizeFor r) m) r) (eqb (blankRefusal (take (sizeFor r) m) r) 0))))
@@ -135,12 +136,12 @@ module _ (w : Room) (k : ℕ) (p : List ℕ) (x : ℕ) (o : Open w k p) (other :
   abbrev pub Joined : Room → Type 0
   Joined v = Open v k (p ++ (x ∷ [])) × (v .sheet ≡ w .sheet) × (v .st .size ≡ w .st .size)
 
-  joined-over : 72 < length p → Joined w
+  joined-over : longest < length p → Joined w
   joined-over h =
       let l = length-append p (x ∷ []) in
       (record { good = o .good; lines = o .lines; buffer = o .buffer; short = λ s. absurd (omega arith); long = λ s. o .long h }, refl, refl)
 
-  joined-more : length p ≤ 72 → Joined (room (longerOf (w .st)) (set (w .line) (w .st .held) x) (w .sheet))
+  joined-more : length p ≤ longest → Joined (room (longerOf (w .st)) (set (w .line) (w .st .held) x) (w .sheet))
   joined-more h =
       let l : length (p ++ (x ∷ [])) ≡ length p + 1 = length-append p (x ∷ []) in
       let at : w .st .held ≡ length p = o .short h .0 in (
@@ -160,7 +161,7 @@ module _ (w : Room) (k : ℕ) (p : List ℕ) (x : ℕ) (o : Open w k p) (other :
 
   pub joined : Joined (stepOf w x)
   joined =
-      below 72 (length p)
+      below longest (length p)
       (λ h. rw (← step-over (w .st) (w .line) (w .sheet) x (o .good) other (o .long h)) (joined-over h))
       (λ h. rw (← step-more (w .st) (w .line) (w .sheet) x (o .good) other (omega (arith, o .short h .0))) (joined-more h))
 
@@ -170,10 +171,10 @@ module _ (w : Room) (k : ℕ) (p : List ℕ) (o : Open w k p) (few : k + 1 < 2 ^
   number = rw (o .lines) (mod-eq-of-lt few ∙ add-one k)
 
   -- a long one is bad
-  ended-long : 72 < length p → Holds (stepOf w 10) (suc k) (Bad (suc k)) []
+  ended-long : longest < length p → Holds (stepOf w 10) (suc k) (Bad (suc k)) []
   ended-long h = rw (← step-long (w .st) (w .line) (w .sheet) 10 (lineNumber (w .st)) (o .good) refl (o .long h) refl) (refl, number)
 
-  ended-short : length p ≤ 72 → stepOf w 10 ≡ room (takeLine (w .st) p (w .sheet) .st) (w .line) (takeLine (w .st) p (w .sheet) .sheet)
+  ended-short : length p ≤ longest → stepOf w 10 ≡ room (takeLine (w .st) p (w .sheet) .st) (w .line) (takeLine (w .st) p (w .sheet) .sheet)
   ended-short h =
       let at : w .st .held ≡ length p = o .short h .0 in
       let is : take (w .st .held - 0) (w .line) ≡ p = rw (sub-zero, at) (o .short h .1) in
@@ -192,11 +193,11 @@ module _ (w : Room) (k : ℕ) (p : List ℕ) (o : Open w k p) (few : k + 1 < 2 ^
 pub ended : (w : Room) (k : ℕ) (o : Outcome) (p : List ℕ) → Holds w k o p → k + 1 < 2 ^ 64 → Holds (stepOf w 10) (suc k) (lineOn (suc k) o p) []
 unfolding lineOn countOn editOn
 ended w k Start p (o, z, e) few =
-    below 72 (length p)
+    below longest (length p)
     (λ h. let bad : countOn (decimalOf p) ≡ Bad (suc k) = rw (long-count p h, z) refl in rw bad (ended-long w k p o few h))
     (λ h. rw (ended-short w k p o few h) (rw (first-line w k p o few z) (rw z (count-holds (w .line) (o .buffer) (w .sheet) e (decimalOf p)))))
 ended w k (Sheet s) p (o, pos, held) few =
-    below 72 (length p)
+    below longest (length p)
     (λ h. let bad : editOn (suc k) s (lineOf p) ≡ Bad (suc k) = rw (long-line p h) refl in rw bad (ended-long w k p o few h))
     (λ h. rw (ended-short w k p o few h) (rw (later-line w k p o few pos) (edit-holds (w .line) (o .buffer) k s (w .sheet) (w .st) held (lineOf p))))
 ended w k (Bad j) p (bad, is) few = rw (← step-idle (w .st) (w .line) (w .sheet) 10 bad) (bad, is)

@@ -10,32 +10,32 @@ use lib.ListN.{length, take, drop, getD, set, drop-of-length-le}
 use lib.Seq.{drop-cons, set-out}
 use borrow.Author.Tests.{lt-ltb, le-ltb, eq-eqb, ne-eqb}
 use Rattle.engine.specs.declared.State.{State}
-use Rattle.engine.specs.Machine.{Held, Room, held, room, between, lineNumber, takeLine, longerOf, endOf, joinOf, stepOf, feedOf}
+use Rattle.engine.specs.Machine.{longest, Held, Room, held, room, between, lineNumber, takeLine, longerOf, endOf, joinOf, stepOf, feedOf}
 
 module _ (st : State) (line m : List ℕ) (b : ℕ) where
   pub step-idle : st .bad ≡ true → room st line m ≡ stepOf (room st line m) b
   unfolding stepOf
   step-idle h = simp h
 
-  pub step-long : (k : ℕ) → st .bad ≡ false → b ≡ 10 → 72 < st .held → k ≡ lineNumber st → room (between k (st .size) true) line m ≡ stepOf (room st line m) b
+  pub step-long : (k : ℕ) → st .bad ≡ false → b ≡ 10 → longest < st .held → k ≡ lineNumber st → room (between k (st .size) true) line m ≡ stepOf (room st line m) b
   unfolding stepOf endOf
-  step-long k good e h ek = rw ek (simp (good, eq-eqb b 10 e, lt-ltb 72 (st .held) h))
+  step-long k good e h ek = rw ek (simp (good, eq-eqb b 10 e, lt-ltb longest (st .held) h))
 
-  pub step-line : (r : State) (new : List ℕ) → st .bad ≡ false → b ≡ 10 → st .held ≤ 72 → held r new ≡ takeLine st (take (st .held - 0) line) m
+  pub step-line : (r : State) (new : List ℕ) → st .bad ≡ false → b ≡ 10 → st .held ≤ longest → held r new ≡ takeLine st (take (st .held - 0) line) m
       → room r line new ≡ stepOf (room st line m) b
   unfolding stepOf endOf
   step-line r new good e h f =
-      ap (λ (x : Held). room (x .st) line (x .sheet)) f ∙ rw (sub-zero (st .held)) (simp (good, eq-eqb b 10 e, le-ltb 72 (st .held) h))
+      ap (λ (x : Held). room (x .st) line (x .sheet)) f ∙ rw (sub-zero (st .held)) (simp (good, eq-eqb b 10 e, le-ltb longest (st .held) h))
 
-  pub step-over : st .bad ≡ false → (b ≡ 10 → ⊥) → 72 < st .held → room st line m ≡ stepOf (room st line m) b
+  pub step-over : st .bad ≡ false → (b ≡ 10 → ⊥) → longest < st .held → room st line m ≡ stepOf (room st line m) b
   unfolding stepOf joinOf
-  step-over good e h = simp (good, ne-eqb b 10 e, lt-ltb 72 (st .held) h)
+  step-over good e h = simp (good, ne-eqb b 10 e, lt-ltb longest (st .held) h)
 
-  pub step-more : st .bad ≡ false → (b ≡ 10 → ⊥) → st .held ≤ 72 → room (longerOf st) (set line (st .held) b) m ≡ stepOf (room st line m) b
+  pub step-more : st .bad ≡ false → (b ≡ 10 → ⊥) → st .held ≤ longest → room (longerOf st) (set line (st .held) b) m ≡ stepOf (room st line m) b
   unfolding stepOf joinOf
-  step-more good e h = simp (good, ne-eqb b 10 e, le-ltb 72 (st .held) h)
+  step-more good e h = simp (good, ne-eqb b 10 e, le-ltb longest (st .held) h)
 
-  pub step-full : st .bad ≡ false → (b ≡ 10 → ⊥) → st .held ≡ 72 → length line ≡ 72 → room (longerOf st) line m ≡ stepOf (room st line m) b
+  pub step-full : st .bad ≡ false → (b ≡ 10 → ⊥) → st .held ≡ longest → length line ≡ longest → room (longerOf st) line m ≡ stepOf (room st line m) b
   step-full good e h l =
       ap (λ (x : List ℕ). room (longerOf st) x m) (sym (set-out line (st .held) b (omega arith))) ∙ step-more good e (omega arith)
 

@@ -10,8 +10,9 @@ use borrow.Author.Tests.{eq-eqb, ne-eqb, eqb-true, eqb-false}
 use Rattle.laws.specs.Ladder.{held}
 use Rattle.line.specs.Line.{decimalOf, onto, cut}
 use Rattle.line.specs.Long.{below}
+use Rattle.page.specs.Page.{largest}
 use Rattle.engine.specs.Run.{joined, Outcome, Start, Sheet, Bad, zeros, countOn, lineOn, linesOn, linesOf, printed, runOf}
-use Rattle.engine.specs.Machine.{Room, room, startOf, stepOf, feedOf, feedAll, finishOf, outputOf, printOf}
+use Rattle.engine.specs.Machine.{longest, Room, room, startOf, stepOf, feedOf, feedAll, finishOf, outputOf}
 use Rattle.engine.specs.laws.Steps.{step-idle}
 use Rattle.engine.specs.laws.Holding.{Holds, open-between, ended, more, prints}
 
@@ -27,10 +28,6 @@ pub in-parts : (w : Room) (ps : List (List ℕ)) → feedAll w ps ≡ feedOf w (
 unfolding feedAll joined feedOf
 in-parts w [] = refl
 in-parts w (p ∷ ps) = in-parts (feedOf w p) ps ∙ sym (feed-append w p (joined ps))
-
--- however the input is cut, the state afterwards is the same
-pub any-cut : (w : Room) (ps qs : List (List ℕ)) → joined ps ≡ joined qs → feedAll w ps ≡ feedAll w qs
-any-cut w ps qs e = in-parts w ps ∙ ap (feedOf w) e ∙ sym (in-parts w qs)
 
 -- a bad line is the last that is read
 feed-idle : (s : List ℕ) (w : Room) → w .st .bad ≡ true → feedOf w s ≡ w
@@ -124,7 +121,7 @@ at-end w k (Sheet s) [] (o, pos, stored) few =
     (prints w k (Sheet s) [] (o, pos, stored) pos)
 at-end w k (Sheet s) (x ∷ p) (o, pos, stored) few =
     let some : w .st .held ≡ 0 → ⊥ =
-    λ none. below 72 (length (x ∷ p)) (λ h. let l = o .long h in omega arith) (λ h. let l = o .short h .0 in omega arith) in
+    λ none. below longest (length (x ∷ p)) (λ h. let l = o .long h in omega arith) (λ h. let l = o .short h .0 in omega arith) in
     rw (finish-within w some)
     (prints (stepOf w 10) (suc k) (lineOn (suc k) (Sheet s) (x ∷ p)) [] (ended w k (Sheet s) (x ∷ p) (o, pos, stored) (omega arith)) (omega arith))
 at-end w k (Bad j) p (bad, is) few =
@@ -149,14 +146,14 @@ run-from (x ∷ xs) w k o p h few = by (run-from xs) (eqb x 10) refl where
       rest (stepOf w x) k o (p ++ (x ∷ [])) (more w k o p x h (eqb-false x 10 e)) (omega (arith, length-append p (x ∷ [])))
 
 -- from the start, in a memory of zeros; what the line's buffer holds does not matter
-module _ (line : List ℕ) (buffer : length line ≡ 72) where
+module _ (line : List ℕ) (buffer : length line ≡ longest) where
   abbrev begun : Room
-  begun = room startOf line (zeros 49480)
+  begun = room startOf line (zeros largest)
 
   run-whole : (input : List ℕ) → length input < 2 ^ 64 → outputOf (feedOf begun input) ≡ runOf input
   unfolding runOf linesOf
   run-whole input few =
-      run-from input begun 0 Start [] (open-between 0 0 line (zeros 49480) buffer, refl, refl) (omega arith)
+      run-from input begun 0 Start [] (open-between 0 0 line (zeros largest) buffer, refl, refl) (omega arith)
       ∙ ap (λ (ls : List (List ℕ)). printed (linesOn 1 Start ls)) (ahead-cut [] input ∙ front-none (cut 10 [] input))
 
   pub run-law : (parts : List (List ℕ)) → length (joined parts) < 2 ^ 64 → outputOf (feedAll begun parts) ≡ runOf (joined parts)

@@ -1,10 +1,6 @@
 -- Word by word.
-use mathlib.Core.Path.{_∙_, refl}
-use mathlib.Core.List.{[], _∷_}
 use borrow.Author.Needs.{needs, elem-fits}
 use mir.Syntax.{w32}
-use lib.ListN.{getD}
-use Rattle.ledger.specs.Bytes.{fields}
 use Rattle.ledger.proofs.Counts.{eight-words}
 use Rattle.ledger.proofs.bytes.pair.Reads as pair-reads
 use Rattle.ledger.proofs.paired.Statement.{statement}

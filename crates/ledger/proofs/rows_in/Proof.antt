@@ -1,6 +1,6 @@
 -- Too short for any, or what the length holds.
 use mathlib.Core.Path.{_≡_, refl}
-use Prim.Native.Nat.{_-_, _/_}
+use Prim.Native.Nat.{_-_}
 use native.Mathlib.Omega.{arith}
 use lib.ListN.{length}
 use Rattle.ledger.specs.Calls.{rowsIn}

@@ -6,7 +6,7 @@ use native.Mathlib.Omega.{arith}
 use lib.ListN.{length, take, drop, getD}
 use Rattle.laws.specs.Arithmetic.{float}
 use Rattle.ledger.specs.Bytes.{bytes, number, fields}
-use Rattle.ledger.specs.Sheet.{Row, functionIn, refusalIn, firstIn, rowBytes}
+use Rattle.ledger.specs.Sheet.{functionIn, refusalIn, firstIn, rowBytes}
 use Rattle.ledger.specs.laws.Fields.{length-fields, number-bytes}
 
 -- the first word is function and refusal number

@@ -1,7 +1,7 @@
 -- A row that an edit stores: 48 bytes that read back as its function, refusal number and first answer. Assumes nothing.
 use mathlib.Core.Path.{_≡_, refl, ap, _∙_, sym}
 use mathlib.Core.Bool.{Bool, true, false, cond}
-use mathlib.Core.List.{List, [], _∷_}
+use mathlib.Core.List.{List}
 use Prim.Native.Nat.{ℕ, _≤_}
 use borrow.Author.Tests.{le-leb, ne-eqb, eqb-true}
 use lib.Dec.{T, eqb}
@@ -10,7 +10,7 @@ use lib.Ieee.{isNan, ofBits, toBits, binary64}
 use lib.Ieee.Bits.{toBits-lt}
 use Rattle.bits.specs.laws.Patterns.{value-back}
 use Rattle.laws.specs.Arithmetic.{float}
-use Rattle.answer.specs.Answer.{refusalOf, firstOf, secondOf}
+use Rattle.answer.specs.Answer.{refusalOf, firstOf}
 use Rattle.answer.specs.Numbers.{last, stored}
 use Rattle.functions.specs.laws.Evaluated.{stored-refusal, never-nan, fits-first}
 use Rattle.ledger.specs.Bytes.{bytes, number, fields}

@@ -1,5 +1,5 @@
 -- Two halves.
-use mathlib.Core.Path.{_≡_, _∙_, sym}
+use mathlib.Core.Path.{_∙_, sym}
 use Prim.Native.Nat.{_+_, _*_}
 use Rattle.ledger.proofs.Words.{number-eight}
 use borrow.Author.Needs.{needs}

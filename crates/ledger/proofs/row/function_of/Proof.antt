@@ -1,5 +1,4 @@
 -- The first byte.
-use mathlib.Core.Path.{_∙_}
 use Rattle.ledger.specs.laws.Rows.{function-words}
 use borrow.Author.Needs.{needs}
 use Rattle.ledger.proofs.row.function_of.Statement.{statement}

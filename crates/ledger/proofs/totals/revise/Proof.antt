@@ -1,14 +1,13 @@
 -- The counts and the total stand at the end of the sheet; what they become goes by the rows whose shares these are.
 use mathlib.Core.Path.{_≡_, ap, _∙_}
-use mathlib.Core.List.{List, [], _∷_, _++_}
-use Prim.Native.Nat.{ℕ, _+_, _-_}
+use mathlib.Core.List.{[], _∷_, _++_}
+use Prim.Native.Nat.{_+_, _-_}
 use native.Mathlib.Omega.{arith}
 use lib.ListN.{length}
-use lib.Ieee.{Float}
 use Rattle.total.specs.Total.{limbsOf, addOf, takeOf}
 use Rattle.ledger.specs.Bytes.{fields, splice}
-use Rattle.ledger.specs.Sheet.{Row, rowPlace, classOf, valueOf, totals, retotal}
-use Rattle.ledger.specs.Calls.{rowsIn, countsIn, totalIn, recount, revised}
+use Rattle.ledger.specs.Sheet.{classOf, retotal}
+use Rattle.ledger.specs.Calls.{countsIn, totalIn, recount, revised}
 use Rattle.ledger.specs.laws.Refusals.{length-counts, length-recount, length-totals}
 use Rattle.ledger.specs.laws.Weights.{retotal-is}
 use Rattle.ledger.proofs.Words.{put-mid}

@@ -1,5 +1,4 @@
 -- Argument by argument.
-use Rattle.sheet.specs.declared.Entry.{Entry}
 use Rattle.sheet.specs.Edit.{keptOf}
 use borrow.Author.Needs.{needs}
 use Rattle.sheet.proofs.row.argument.Reads as argument-reads

@@ -27,7 +27,7 @@ impl Sheets {
         let sheet = || RefCell::new(vec![0u8; 328 + 48 * rows as usize]);
         let sheets = Sheets { rows, ours: sheet(), theirs: sheet() };
         assert_eq!(library::blank(&mut sheets.ours.borrow_mut(), rows), 0);
-        assert_eq!(twin::sheet::make_blank(&mut sheets.theirs.borrow_mut(), rows), 0);
+        assert_eq!(twin::ledger::make_blank(&mut sheets.theirs.borrow_mut(), rows), 0);
         sheets
     }
 
@@ -36,7 +36,8 @@ impl Sheets {
     }
 
     fn by_twin(&self, (row, angle): Edit, m: f64) -> u8 {
-        twin::sheet::edit(&mut self.theirs.borrow_mut(), row % self.rows, 5, angle.to_bits(), m.to_bits(), 0)
+        let entry = twin::sheet::Entry { function: 5, a: angle.to_bits(), b: m.to_bits(), c: 0 };
+        twin::sheet::edit(&mut self.theirs.borrow_mut(), row % self.rows, entry)
     }
 }
 

@@ -3,7 +3,7 @@
 use sheet::Entry;
 ghost use mathlib.Core.Path.{_≡_};
 ghost use lib.Ieee.{toBits, ofBits, binary64};
-ghost use lib.ListN.{length, take, drop};
+ghost use lib.ListN.{length};
 ghost use Rattle.root.specs.Root.{rootOf};
 ghost use Rattle.fused.specs.Fused.{fusedOf};
 ghost use Rattle.whole.specs.Whole.{magnitudeOf, truncOf, floorOf, roundOf};
@@ -12,7 +12,7 @@ ghost use Rattle.answer.specs.Answer.{valueOf};
 ghost use Rattle.angle.specs.Sine.{sineOf};
 ghost use Rattle.angle.specs.Cosine.{cosineOf};
 ghost use Rattle.logarithm.specs.Logarithm.{logarithmOf};
-ghost use Rattle.ledger.specs.Calls.{blankRefusal, blankOf, rowRefusal, readOf, classIn, totalRefusal, totalOf, countOf};
+ghost use Rattle.ledger.specs.Calls.{blankRefusal, blankOf, rowRefusal, classIn, totalRefusal, totalOf, countOf};
 ghost use Rattle.sheet.specs.Edit.{editRefusal, editOf};
 ghost use Rattle.shuttlemint.specs.Face.{evaluateRefusal, evaluateOut, rowPlaceOf};
 

@@ -2,6 +2,5 @@
 pub mod Columns
 pub mod Carries
 pub mod Reading
-pub mod Packing
 pub mod Leading
 pub mod Limbs

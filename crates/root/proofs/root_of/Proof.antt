@@ -1,9 +1,7 @@
--- `root_of` meets its contract: the 54 digits and the rest decide the rounding (`Trials`).
-use mathlib.Core.Path.{ap, _∙_}
-use Prim.Native.Nat.{_*_, _^_}
+-- `root_of` meets its contract: the pattern is that of the rounded root (`Trials`).
+use native.Mathlib.Omega.{arith}
 use borrow.Author.Needs.{needs}
-use Rattle.root.specs.Root.{roundRoot}
-use Rattle.root.proofs.Trials.{root-bounds, rounded-root}
+use Rattle.root.proofs.Trials.{bounds, no-nan-pattern, root-pattern}
 use Rattle.root.proofs.root_of.Statement.{statement}
 use Rattle.root.proofs.root_of.Tie as tie
 
@@ -13,21 +11,30 @@ aligned-requires c κs = search needs
 digits-requires : tie.Need-digits-requires
 digits-requires c κs = search needs
 
-add-rounded : tie.Need-add-rounded
-add-rounded c = search needs
+add-result : tie.Need-add-result
+add-result c = search needs
 
-rounded-requires : tie.Need-rounded-requires
-rounded-requires c κs = search needs
+add-result-2 : tie.Need-add-result-2
+add-result-2 c =
+    let d = c .before in
+    let a = d .before in
+    let b = bounds (a .before .args .sig) (a .before .args .exp) (a .aligned .result .digits) (a .aligned .result .half) (d .digits .result) (a .aligned .ensures) (d .digits .ensures) .1 in
+    omega arith
+
+add-result-3 : tie.Need-add-result-3
+add-result-3 c = search needs
+
+float-from-bits-result : tie.Need-float-from-bits-result
+float-from-bits-result c =
+    let d = c .before in
+    let a = d .before in
+    no-nan-pattern (a .before .args .sig) (a .before .args .exp) (a .aligned .result .digits) (a .aligned .result .half) (d .digits .result) (a .aligned .ensures) (d .digits .ensures)
 
 returns : tie.Need-returns
 returns c =
-    let d = c .before .before .before .before in
+    let d = c .before in
     let a = d .before in
-    let r = d .digits .result in
-    let b = root-bounds (a .aligned .result .digits) (r .root) (r .rest) (a .aligned .ensures .least) (a .aligned .ensures .most) (d .digits .ensures) in
-    c .rounded .ensures
-    ∙ rounded-root (a .aligned .result .digits * 2 ^ 44) (a .aligned .result .half) (r .root) (r .rest) (d .digits .ensures) (b .0) (b .1)
-    ∙ ap roundRoot (a .aligned .ensures .same)
+    root-pattern (a .before .args .sig) (a .before .args .exp) (a .aligned .result .digits) (a .aligned .result .half) (d .digits .result) (a .aligned .ensures) (d .digits .ensures)
 
 pub root-of-spec : {M : Type 1} → statement M
-root-of-spec = tie.close (tie.spec aligned-requires digits-requires add-rounded rounded-requires returns)
+root-of-spec = tie.close (tie.spec aligned-requires digits-requires add-result add-result-2 add-result-3 float-from-bits-result returns)

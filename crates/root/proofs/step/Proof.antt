@@ -1,51 +1,36 @@
--- `step` meets its contract: the digit is 1 where the trial leaves no borrow (`Trials`).
-use mathlib.Core.Path.{_≡_, sym, subst}
-use mathlib.Core.Logic.{⊎-elim}
-use Prim.Native.Nat.{ℕ, _+_, _-_, _*_, _/_, _^_, _<_, _≤_}
-use native.Mathlib.Omega.{arith}
+-- `step` meets its contract: both choices are by the borrow (`Trials`).
+use mathlib.Core.Path.{sym, subst}
+use mathlib.Core.Logic.{inl, inr, ⊎-elim}
+use Prim.Native.Nat.{ℕ, _+_, _*_, _/_, _%_, _^_, _<_}
 use borrow.Author.Needs.{needs}
 use Rattle.root.specs.Steps.{Tried}
-use Rattle.root.proofs.Trials.{digit-none, digit-one}
+use Rattle.root.proofs.Trials.{digit}
 use Rattle.root.proofs.step.Statement.{statement}
 use Rattle.root.proofs.step.Tie as tie
 
 left-fits : (c : tie.After-wrapping-sub-u64) → c .wrapping-sub-u64 .result < 2 ^ 64
 left-fits c = search needs
 
-mul-whole : tie.Need-mul-whole
-mul-whole c = search needs
-
-add-whole : tie.Need-add-whole
-add-whole c = search needs
-
 wrapping-sub-u64-requires : tie.Need-wrapping-sub-u64-requires
 wrapping-sub-u64-requires c κs = search needs
 
-mul-t7 : tie.Need-mul-t7
-mul-t7 c = search needs
+wrapping-add-u64-requires : tie.Need-wrapping-add-u64-requires
+wrapping-add-u64-requires c κs = search needs
 
-add-t10 : tie.Need-add-t10
-add-t10 c = search needs
-
-mul-t11 : tie.Need-mul-t11
-mul-t11 c = search needs
-
-sub-t12 : tie.Need-sub-t12
-sub-t12 c = below (c .before .before .wrapping-sub-u64 .result) (c .before .before .before .before .args .p .next) (left-fits (c .before .before)) (c .before .before .before .before .pre .0)
-  where
-    below : (left trial : ℕ) → left < 2 ^ 64 → 0 < trial → 4 * (left / 2 ^ 63) ≤ 2 * trial + 3
-    below left trial h p = omega arith
+add-t13 : tie.Need-add-t13
+add-t13 c = search needs
 
 returns : tie.Need-returns
-returns c n t =
-    let w = c .before .before in
-    let s = w .before .before in
-    let a = s .args in
-    let left = w .wrapping-sub-u64 .result in
-    let next : ℕ = 2 * a .p .next + 3 - 4 * (left / 2 ^ 63) in
-    let none = digit-none (a .p .next) (a .p .rest) (a .pair) left n (s .pre .1) (s .pre .2) (s .pre .3) (left-fits w) (w .wrapping-sub-u64 .ensures) t in
-    let one = digit-one (a .p .next) (a .p .rest) (a .pair) left n (s .pre .1) (s .pre .2) (s .pre .3) (left-fits w) (w .wrapping-sub-u64 .ensures) t in
-    ⊎-elim (λ x. subst (Tried (4 * n + a .pair) next) (sym (x .1)) (none (x .0 .taken))) (λ x. subst (Tried (4 * n + a .pair) next) (sym (x .1)) (one (x .0 .left))) (c .before .if1 .came)
+returns c n s t =
+    let j = c .before .before .before .before in
+    let w = j .before .before in
+    let a = w .before .args in
+    let r = c .before .before .wrapping-add-u64 in
+    let d =
+    digit n s (a .p .rest) (a .p .next) (a .p .up) (a .p .down) t (w .wrapping-sub-u64 .result) (j .before .if1 .rest) (j .if2 .more) (left-fits w) (w .wrapping-sub-u64 .ensures)
+    (⊎-elim (λ x. inl (x .0 .taken, x .1)) (λ x. inr (x .0 .left, x .1)) (j .before .if1 .came))
+    (⊎-elim (λ x. inl (x .0 .taken, x .1)) (λ x. inr (x .0 .left, x .1)) (j .if2 .came)) in
+    subst (λ (x : ℕ). Tried n s (j .before .if1 .rest * 2 ^ 1 % 2 ^ 64) x (a .p .up / 2 ^ 1) (a .p .down / 2 ^ 1 + 2 ^ 63)) (sym (r .ensures)) d
 
 pub step-spec : {M : Type 1} → statement M
-step-spec = tie.close (tie.spec mul-whole add-whole wrapping-sub-u64-requires mul-t7 add-t10 mul-t11 sub-t12 returns)
+step-spec = tie.close (tie.spec wrapping-sub-u64-requires wrapping-add-u64-requires add-t13 returns)

@@ -47,6 +47,13 @@ whole-root-is n =
     root-in-is (size n) n
     (lt-of-lt-of-le (size-lt n) (le-trans (le-trans (le-of-eq (sym (mul-one (2 ^ size n)))) (mul-le-mul-left (2 ^ size n) (pow-pos (size n)))) (le-of-eq (two-four (size n)))))
 
+pub only-root : (n r : ℕ) → IsRoot n r → r ≡ wholeRoot n
+only-root n r w =
+    let v = whole-root-is n in
+    let a : r < wholeRoot n + 1 = square-lt r (wholeRoot n + 1) (lt-of-le-of-lt (w .0) (v .1)) in
+    let b : wholeRoot n < r + 1 = square-lt (wholeRoot n) (r + 1) (lt-of-le-of-lt (v .0) (w .1)) in
+    omega arith
+
 -- ---- the nearest
 -- q * 2 ^ k is nearest to the root of n among the multiples of 2 ^ k, a tie going to the even one: twice the root lies between the odd multiples of 2 ^ k beside 2q * 2 ^ k, and on one of them only where q is even
 abbrev square : ℕ → ℕ

@@ -4,7 +4,7 @@ use Prim.Native.Nat.{_+_}
 use native.Mathlib.Omega.{arith}
 use lib.Ieee.{binary64, ofBits, units}
 use borrow.Author.Needs.{needs}
-use Rattle.bits.proofs.Packing.{pattern, packed-is, over-is, no-nan}
+use Rattle.bits.specs.laws.Packing.{pattern, packed-is, over-is, no-nan}
 use Rattle.bits.proofs.rounding.packed.Statement.{statement}
 use Rattle.bits.proofs.rounding.packed.Tie as tie
 

@@ -1,0 +1,96 @@
+#!/usr/bin/env python3
+"""oracle/root_code.py [ARCHIVE]: looks at the root as written and as compiled (docs/changes/04-root.md).
+In crates/root/src no `*`, `/` or `%` stands outside comments and contracts. In ARCHIVE (target/staticlib/libshuttlemint.a, which
+`rt staticlib shuttlemint` writes) the root has no multiplication, no division, no call, and one loop with no branch in it.
+It needs objdump. Its last line says what it saw; it ends with status 1 where a rule is broken."""
+import re
+import subprocess
+import sys
+from pathlib import Path
+
+HERE = Path(__file__).resolve().parent
+FORBIDDEN = re.compile(r"^(v?f?n?madd|i?mul|v?p?mul|i?div|v?div|v?sqrt|v?fmadd|f(mul|div|sqrt)|call|syscall|int\b)")
+
+
+def fail(text):
+    sys.exit(f"the root's code: FAILED: {text}")
+
+
+def bare(source):
+    """The code without comments, imports of the logic and contracts."""
+    source = re.sub(r"//.*", "", source)
+    source = re.sub(r"^ghost use .*$", "", source, flags=re.M)
+    while found := re.search(r"\b(requires|ensures)\b[^{]*\{", source):
+        depth, end = 1, found.end()
+        while depth:
+            depth += {"{": 1, "}": -1}.get(source[end], 0)
+            end += 1
+        source = source[: found.start()] + source[end:]
+    return source
+
+
+def check_source():
+    for path in sorted((HERE.parent / "crates/root/src").glob("**/*.rt")):
+        for line in bare(path.read_text()).splitlines():
+            if re.search(r"[*/%]", line):
+                fail(f"{path.name}: {line.strip()}")
+
+
+def functions(archive):
+    """Each function's instructions: (address, mnemonic, operands), and a last field for the symbol that a relocation names."""
+    run = subprocess.run(["objdump", "-dr", "--no-show-raw-insn", archive], capture_output=True, text=True)
+    if run.returncode:
+        fail(run.stderr.strip())
+    found, name = {}, None
+    for line in run.stdout.splitlines():
+        if head := re.match(r"[0-9a-f]+ <(.*)>:$", line):
+            name = head[1]
+            found[name] = []
+        elif name and (moved := re.match(r"\s+[0-9a-f]+: R_\S+\s+(\S+)", line)):
+            found[name][-1][3] = re.sub(r"^\.text\.|[-+]0x[0-9a-f]+$", "", moved[1])
+        elif name and (step := re.match(r"\s+([0-9a-f]+):\s+(\S+)\s*(.*)", line)):
+            found[name].append([int(step[1], 16), step[2], step[3], ""])
+    return found
+
+
+def check_compiled(archive):
+    code = functions(archive)
+    if "sm_root" not in code:
+        fail(f"{archive} has no sm_root")
+    # In the library the face calls root::root, which other functions call too; where none does it is a part of sm_root.
+    called = [to for _, what, _, to in code["sm_root"] if what.startswith(("call", "j")) and to]
+    name = "root::root" if called == ["root::root"] else "sm_root"
+    body = code[name]
+    for at, what, operands, to in body:
+        if FORBIDDEN.match(what) or (what.startswith("j") and to):
+            fail(f"{name}+{at:#x}: {what} {operands}")
+    jumps = {at: int(operands.split()[0], 16) for at, what, operands, _ in body if what.startswith("j")}
+    after = dict(zip([at for at, *_ in body], [at for at, *_ in body[1:]]))
+
+    def ways(at, what):
+        if what.startswith("ret"):
+            return []
+        onward = [] if what == "jmp" or at not in after else [after[at]]
+        return onward + ([jumps[at]] if at in jumps else [])
+
+    leads = {at: ways(at, what) for at, what, *_ in body}
+
+    def reached(begin):
+        seen, left = set(), [begin]
+        while left:
+            at = left.pop()
+            if at not in seen:
+                seen.add(at)
+                left += leads[at]
+        return seen
+
+    # a jump of the loop leads to where it is reached from again
+    inside = [at for at, to in jumps.items() if at in reached(to)]
+    if len(inside) != 1:
+        fail(f"{name} has {len(inside)} jumps in loops, at {[hex(at) for at in inside]}, where the digits' loop has one")
+    return name, len(body), body[-1][0] + 1
+
+
+check_source()
+name, count, size = check_compiled(sys.argv[1] if len(sys.argv) > 1 else str(HERE.parent / "target/staticlib/libshuttlemint.a"))
+print(f"the root's code: no multiplication, no division, no call, no branch on a digit ({name}: {count} instructions, about {size} bytes)")

@@ -8,6 +8,7 @@ use super::row::words_sound;
 use super::totals::read_counts;
 use super::totals::sum;
 use crate::MOST_ROWS;
+use crate::row_place;
 use crate::rows_in;
 use crate::size_for;
 use answer::LAST;
@@ -24,7 +25,8 @@ pub(crate) fn contents(rows: u32) -> [u32; 8]
     requires { ⌜ rows ≤ mostRows ⌝ }
     ensures { λ r. ⌜ r ≡ entries rows ⌝ }
 {
-    [1, 32, 48 * rows, rows, 2, 32 + 48 * rows, 296, 1]
+    let end = row_place(rows) as u32;
+    [1, 32, 48 * rows, rows, 2, end, 296, 1]
 }
 
 fn starts_with(s: &[u8], words: [u32; 8]) -> bool

@@ -1,22 +1,23 @@
 -- The eight words.
-use mathlib.Core.Path.{refl}
-use Rattle.ledger.specs.Sheet.{entries}
+use mathlib.Core.List.{[], _∷_}
+use Prim.Native.Nat.{_*_}
 use borrow.Author.Needs.{needs}
+use Rattle.ledger.specs.Sheet.{entries}
 use Rattle.ledger.proofs.checks.contents.Statement.{statement}
 use Rattle.ledger.proofs.checks.contents.Tie as tie
 
-mul-t2 : tie.Need-mul-t2
-mul-t2 c = search needs
+row-place-requires : tie.Need-row-place-requires
+row-place-requires c κs = search needs
 
-mul-t3 : tie.Need-mul-t3
-mul-t3 c = search needs
+cast-end : tie.Need-cast-end
+cast-end c = search needs
 
-add-t4 : tie.Need-add-t4
-add-t4 c = search needs
+mul-t4 : tie.Need-mul-t4
+mul-t4 c = search needs
 
 returns : tie.Need-returns
 unfolding entries
-returns c = refl
+returns c = let r = c .before .args .rows in λ i. 1 ∷ 32 ∷ 48 * r ∷ r ∷ 2 ∷ c .row-place .ensures i ∷ 296 ∷ 1 ∷ []
 
 pub contents-spec : {M : Type 1} → statement M
-contents-spec = tie.close (tie.spec mul-t2 mul-t3 add-t4 returns)
+contents-spec = tie.close (tie.spec row-place-requires cast-end mul-t4 returns)

@@ -1,2 +1,3 @@
 -- What is proved of the definition.
 pub mod Unmet
+pub mod Corners

@@ -1,55 +1,21 @@
 // What each kind of list is worked out by. A line holds the arguments' patterns, then the answer's.
+// The kinds by number: 1 magnitude, 2 trunc, 3 floor, 4 round, 5 root, 6 fused, 7 the complete integrals, 8 ellippi, 9 ellipeinc, 10 ellipf,
+// 11 sine, 12 cosine, 13 logarithm, 14 remainder, 15 RF, 16 RC, 17 RD, 18 RJ. No other is a kind.
 ghost use Prim.Native.Nat.{_<_, _≤_};
+use crate::text::float;
+use crate::text::shaped;
 use crate::text::word;
 use answer::Answer;
+use carlson::Outcome;
+use line::Number;
 
-// The kinds by number; 0 is none.
-pub(crate) fn kind_of(name: &[u8]) -> u8 {
-    if check::same(name, b"magnitude") {
-        return 1;
-    }
-    if check::same(name, b"trunc") {
-        return 2;
-    }
-    if check::same(name, b"floor") {
-        return 3;
-    }
-    if check::same(name, b"round") {
-        return 4;
-    }
-    if check::same(name, b"root") {
-        return 5;
-    }
-    if check::same(name, b"fused") {
-        return 6;
-    }
-    more_kinds(name)
-}
-
-fn more_kinds(name: &[u8]) -> u8 {
-    if check::same(name, b"complete") {
-        return 7;
-    }
-    if check::same(name, b"ellippi") {
-        return 8;
-    }
-    if check::same(name, b"ellipeinc") {
-        return 9;
-    }
-    if check::same(name, b"ellipf") {
-        return 10;
-    }
-    if check::same(name, b"sine") {
-        return 11;
-    }
-    if check::same(name, b"cosine") {
-        return 12;
-    }
-    if check::same(name, b"logarithm") {
-        return 13;
-    }
-    if check::same(name, b"remainder") {
-        return 14;
+// 0, which is no kind, where the text is no number of one.
+pub(crate) fn kind_of(text: &[u8]) -> u8 {
+    let Number::Value(n) = line::read_count(text) else {
+        return 0;
+    };
+    if n < 256 {
+        return n as u8;
     }
     0
 }
@@ -61,16 +27,16 @@ pub(crate) fn words(kind: u8) -> usize
     if kind < 6 {
         return 2;
     }
-    if kind == 6 {
-        return 4;
-    }
     if kind == 7 {
         return 6;
     }
-    if kind == 14 {
+    if kind == 18 {
+        return 5;
+    }
+    if (kind == 14) | (kind == 16) {
         return 3;
     }
-    if kind > 10 {
+    if (kind == 6) | (kind > 10) {
         return 4;
     }
     3
@@ -128,45 +94,29 @@ fn single(kind: u8, x: f64) -> f64 {
 
 // Bit for bit.
 fn agrees_single(kind: u8, s: &[u8]) -> bool {
-    let x = word(s, 0);
-    let y = word(s, 17);
-    let r = single(kind, bits::from_pattern(x.value));
-    (x.good & y.good) & (bits::to_pattern(r) == y.value)
+    let r = single(kind, float(s, 0));
+    bits::to_pattern(r) == word(s, 17)
 }
 
 fn agrees_fused(s: &[u8]) -> bool {
-    let x = word(s, 0);
-    let y = word(s, 17);
-    let z = word(s, 34);
-    let w = word(s, 51);
-    let r = fused::fused(
-        bits::from_pattern(x.value),
-        bits::from_pattern(y.value),
-        bits::from_pattern(z.value),
-    );
-    (x.good & y.good & z.good & w.good) & (bits::to_pattern(r) == w.value)
+    let r = fused::fused(float(s, 0), float(s, 17), float(s, 34));
+    bits::to_pattern(r) == word(s, 51)
 }
 
 fn agrees_remainder(s: &[u8]) -> bool {
-    let x = word(s, 0);
-    let y = word(s, 17);
-    let z = word(s, 34);
-    let r = remainder::remainder(bits::from_pattern(x.value), bits::from_pattern(y.value));
-    (x.good & y.good & z.good) & (bits::to_pattern(r) == z.value)
+    let r = remainder::remainder(float(s, 0), float(s, 17));
+    bits::to_pattern(r) == word(s, 34)
 }
 
 // K and E: the first word is function and refusal; bit for bit, refusals too.
 fn agrees_complete(s: &[u8]) -> bool {
     let head = word(s, 0);
-    let m = word(s, 17);
-    let first = word(s, 68);
-    let second = word(s, 85);
-    let function = (head.value / 256 % 256) as u8;
-    let z = answer::read(functions::evaluate(function, m.value, 0, 0));
-    let refusal = (z.refusal as u64) == head.value % 256;
-    let values = (bits::to_pattern(z.first) == first.value)
-        & (bits::to_pattern(z.second) == second.value);
-    (head.good & m.good & first.good & second.good) & (refusal & values)
+    let function = (head / 256 % 256) as u8;
+    let z = answer::read(functions::evaluate(function, word(s, 17), 0, 0));
+    let refusal = (z.refusal as u64) == head % 256;
+    let values = (bits::to_pattern(z.first) == word(s, 68))
+        & (bits::to_pattern(z.second) == word(s, 85));
+    refusal & values
 }
 
 // The function of the sheet whose list this is.
@@ -182,13 +132,10 @@ fn function_of(kind: u8) -> u8 {
 
 // Within 2^-36 of the reference, relative; a zero must be a zero.
 fn agrees_near(kind: u8, s: &[u8]) -> Shown {
-    let a = word(s, 0);
-    let b = word(s, 17);
-    let reference = word(s, 34);
-    let z = answer::read(functions::evaluate(function_of(kind), a.value, b.value, 0));
-    let y = bits::from_pattern(reference.value);
+    let z = answer::read(functions::evaluate(function_of(kind), word(s, 0), word(s, 17), 0));
+    let y = float(s, 34);
     within(
-        a.good & b.good & reference.good & (z.refusal == 0),
+        z.refusal == 0,
         whole::magnitude(z.first - y),
         whole::magnitude(y) * 1.4551915228366852e-11,
     )
@@ -207,38 +154,72 @@ fn computed(kind: u8, x: f64) -> Answer {
 
 // The reference is the sum of two floats, and its bound stands beside it.
 fn agrees_bounded(kind: u8, s: &[u8]) -> Shown {
-    let x = word(s, 0);
-    let high = word(s, 17);
-    let low = word(s, 34);
-    let bound = word(s, 51);
-    let z = answer::read(computed(kind, bits::from_pattern(x.value)));
-    let away = z.first - bits::from_pattern(high.value) - bits::from_pattern(low.value);
+    let z = answer::read(computed(kind, float(s, 0)));
+    let away = z.first - float(s, 17) - float(s, 34);
+    within(z.refusal == 0, whole::magnitude(away), float(s, 51))
+}
+
+// Carlson's recipes.
+fn duplicated(kind: u8, s: &[u8]) -> Outcome {
+    let x = float(s, 0);
+    let y = float(s, 17);
+    if kind == 16 {
+        return rc::rc(x, y);
+    }
+    let z = float(s, 34);
+    if kind == 15 {
+        return rf::rf(x, y, z);
+    }
+    if kind == 17 {
+        return rd::rd(x, y, z);
+    }
+    rj::rj(x, y, z, float(s, 51))
+}
+
+// The stop test met, and within 2^-48 of the reference, the line's last word, relative.
+fn agrees_recipe(kind: u8, s: &[u8]) -> Shown {
+    let r = duplicated(kind, s);
+    let y = float(s, 17 * (words(kind) - 1));
     within(
-        x.good & high.good & low.good & bound.good & (z.refusal == 0),
-        whole::magnitude(away),
-        bits::from_pattern(bound.value),
+        r.met,
+        whole::magnitude(r.value - y),
+        whole::magnitude(y) * 3.552713678800501e-15,
     )
 }
 
-// Whether the line's answer comes out again.
-pub(crate) fn agrees(kind: u8, s: &[u8]) -> Shown {
+// By bits.
+fn agrees_exactly(kind: u8, s: &[u8]) -> bool {
     if kind == 0 {
-        return exact(false);
+        return false;
     }
     if kind == 6 {
-        return exact(agrees_fused(s));
+        return agrees_fused(s);
     }
     if kind == 7 {
-        return exact(agrees_complete(s));
+        return agrees_complete(s);
     }
     if kind == 14 {
-        return exact(agrees_remainder(s));
+        return agrees_remainder(s);
     }
-    if kind > 10 {
-        return agrees_bounded(kind, s);
+    agrees_single(kind, s)
+}
+
+// Whether the line's answer comes out again; a line that does not read differs.
+pub(crate) fn agrees(kind: u8, s: &[u8]) -> Shown {
+    if !shaped(s) {
+        return exact(false);
     }
-    if kind > 7 {
+    if (kind < 8) | (kind == 14) {
+        return exact(agrees_exactly(kind, s));
+    }
+    if kind < 11 {
         return agrees_near(kind, s);
     }
-    exact(agrees_single(kind, s))
+    if kind < 14 {
+        return agrees_bounded(kind, s);
+    }
+    if kind < 19 {
+        return agrees_recipe(kind, s);
+    }
+    exact(false)
 }

@@ -1,4 +1,4 @@
-// Replays stored lists of outside answers: for each pair of arguments, a kind and the name of a list of that kind,
+// Replays stored lists of outside answers: for each pair of arguments, a kind's number and the name of a list of that kind,
 // it works every line out again and writes how many lines there are and how many differ.
 mod kinds;
 mod list;

@@ -1,29 +1,41 @@
 // A list's line: words of 16 lower-case hex digits, one space apart, and a line end.
 use line::Number;
 
-// A bit pattern, and whether the text was one.
-pub(crate) struct Pattern {
-    pub value: u64,
-    pub good: bool,
-}
-
-fn none() -> Pattern {
-    Pattern {
-        value: 0,
-        good: false,
+// Whether the line is of this form.
+pub(crate) fn shaped(s: &[u8]) -> bool {
+    let mut at: usize = 0;
+    while at < s.len() {
+        if s.len() - at < 17 {
+            return false;
+        }
+        let end = at + 16;
+        let Number::Value(value) = line::read_hex(&s[at..end]) else {
+            return false;
+        };
+        let mark = if s.len() - end == 1 { b'\n' } else { b' ' };
+        if s[end] != mark {
+            return false;
+        }
+        at = end + 1;
     }
+    true
 }
 
-// The word that starts at a place of the line.
-pub(crate) fn word(s: &[u8], at: usize) -> Pattern {
+// The word that starts at a place of the line; 0 where there is none.
+pub(crate) fn word(s: &[u8], at: usize) -> u64 {
     if s.len() < 16 {
-        return none();
+        return 0;
     }
     if s.len() - 16 < at {
-        return none();
+        return 0;
     }
     let Number::Value(value) = line::read_hex(&s[at..at + 16]) else {
-        return none();
+        return 0;
     };
-    Pattern { value, good: true }
+    value
+}
+
+// The float whose pattern starts there.
+pub(crate) fn float(s: &[u8], at: usize) -> f64 {
+    bits::from_pattern(word(s, at))
 }

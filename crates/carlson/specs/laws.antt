@@ -2,3 +2,4 @@
 pub mod Duplication
 pub mod Counts
 pub mod Unmet
+pub mod Scaled

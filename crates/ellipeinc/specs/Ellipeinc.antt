@@ -1,7 +1,7 @@
 -- ellipeinc (01, "ellipeinc, in this order"); each step has the operations of ellipeinc.rs, in its order. Definitions only.
 use mathlib.Core.Bool.{Bool, true, cond, not, _||_, _&&_}
 use lib.Ieee.{Float, neg}
-use Rattle.laws.specs.Arithmetic.{_⊕_, _⊖_, _⊗_, _⊘_, _%%_, _<·_, _≤·_, _=·_, _≠·_, +0, most, π, ε, 1·0, 2·0, 3·0}
+use Rattle.laws.specs.Arithmetic.{_⊕_, _⊖_, _⊗_, _⊘_, _%%_, _<·_, _≤·_, _=·_, _≠·_, +0, most, π, ε, 1·0, 2·0, 3·0, float}
 use Rattle.laws.specs.Ladder.{when_gives_else_}
 use Rattle.answer.specs.Answer.{valueOf}
 use Rattle.answer.specs.declared.Answer.{Answer}
@@ -15,6 +15,7 @@ use Rattle.rf.specs.Rf.{rfOf}
 use Rattle.rd.specs.Rd.{rdOf}
 use Rattle.answer.specs.Settle.{handedOf}
 use Rattle.incomplete.specs.Period.{far-out, foldedOf}
+use Rattle.incomplete.specs.Scaling.{λ4, √λ, largeOf}
 use Rattle.answer.specs.declared.Term.{Term}
 use Rattle.incomplete.specs.declared.Fold.{Fold}
 
@@ -58,14 +59,24 @@ lineOf sign size = handedOf (sign ⊗ (2·0 ⊗ halfTurns size ⊕ valueOf (sine
 unfoldable pub ownOf : Float → Float → Bool
 ownOf angle m = angle =· +0 || magnitudeOf m ⊗ angle ⊗ angle <· ε
 
--- c = 1 / sin² and c1 = cos² / sin², which is c - 1: for m < 0 (DLMF 19.25.9)
-unfoldable pub belowOf : Float → Float → Float → Term
-belowOf m c c1 =
+-- c = 1 / sin² and c1 = cos² / sin², which is c - 1 (DLMF 19.25.9)
+unfoldable pub twoTermsOf : Float → Float → Float → Term
+twoTermsOf m c c1 =
     let f = rfOf c1 (c ⊖ m) c in
     let d = rdOf c1 (c ⊖ m) c in
     record { value = f .value ⊖ m ⊗ d .value ⊘ 3·0; met = f .met && d .met }
 
--- and for m > 0 (DLMF 19.25.10)
+-- 2^12: above it the three terms below, of the size m·φ, would cancel to φ and lose more than twelve digits
+abbrev pub cancelling : Float
+cancelling = float 0x40b0_0000_0000_0000
+
+-- for m < 0, and for m > 2^12. It has the degree -1/2 in m, c and c1: divided by λ they give √λ times as much
+unfoldable pub belowOf : Float → Float → Float → Term
+belowOf m c c1 =
+    let t = twoTermsOf (m ⊘ λ4) (c ⊘ λ4) (c1 ⊘ λ4) in
+    cond (largeOf m c || cancelling <· m) (record { value = t .value ⊘ √λ; met = t .met }) (twoTermsOf m c c1)
+
+-- for 0 < m ≤ 2^12 (DLMF 19.25.10)
 unfoldable pub aboveOf : Float → Float → Float → Term
 aboveOf m c c1 =
     let f = rfOf c1 c (c ⊖ m) in
@@ -73,7 +84,7 @@ aboveOf m c c1 =
     record { value = (1·0 ⊖ m) ⊗ f .value ⊕ m ⊗ (1·0 ⊖ m) ⊗ d .value ⊘ 3·0 ⊕ m ⊗ rootOf (c1 ⊘ (c ⊗ (c ⊖ m))); met = f .met && d .met }
 
 unfoldable pub recipeOf : Float → Float → Float → Term
-recipeOf m s2 c2 = cond (m <· +0) (belowOf m (1·0 ⊘ s2) (c2 ⊘ s2)) (aboveOf m (1·0 ⊘ s2) (c2 ⊘ s2))
+recipeOf m s2 c2 = cond (m <· +0 || cancelling <· m) (belowOf m (1·0 ⊘ s2) (c2 ⊘ s2)) (aboveOf m (1·0 ⊘ s2) (c2 ⊘ s2))
 
 -- the refusals that come with a period term, the term itself, and the sign
 unfoldable pub withPeriodsOf : Float → Float → Float → Bool → Float → Answer

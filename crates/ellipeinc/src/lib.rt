@@ -8,17 +8,23 @@ use answer::handed;
 use incomplete::FAR_OUT;
 use incomplete::Fold;
 use incomplete::PI;
+use incomplete::ROOT_OF_SCALE;
+use incomplete::SCALE;
 use incomplete::complete_e;
 use incomplete::cosine;
 use incomplete::folded;
+use incomplete::large;
 use incomplete::sine;
 use rd::rd;
 use rf::rf;
 ghost use mathlib.Core.Path.{_≡_};
-ghost use Rattle.ellipeinc.specs.Ellipeinc.{signOf, itselfOf, farOf, steepOf, lineOf, ownOf, belowOf, aboveOf, recipeOf, withPeriodsOf, byRecipeOf, reducedOf, onSizeOf, ellipeincOf};
+ghost use Rattle.ellipeinc.specs.Ellipeinc.{signOf, itselfOf, farOf, steepOf, lineOf, ownOf, twoTermsOf, belowOf, aboveOf, recipeOf, withPeriodsOf, byRecipeOf, reducedOf, onSizeOf, ellipeincOf};
 
 // The largest finite f64.
 const MOST: f64 = 1.7976931348623157e308;
+
+// 2^12
+const CANCELLING: f64 = 4096.0;
 
 fn sign(phi: f64) -> f64
     ensures { λ r. ⌜ r ≡ signOf phi ⌝ }
@@ -70,9 +76,8 @@ fn own(angle: f64, m: f64) -> bool
     (angle == 0.0) | (whole::magnitude(m) * angle * angle < 2.220446049250313e-16)
 }
 
-// Both terms are positive for m < 0.
-fn below(m: f64, c: f64, c1: f64) -> Term
-    ensures { λ r. ⌜ r ≡ belowOf m c c1 ⌝ }
+fn two_terms(m: f64, c: f64, c1: f64) -> Term
+    ensures { λ r. ⌜ r ≡ twoTermsOf m c c1 ⌝ }
 {
     let f = rf(c1, c - m, c);
     let d = rd(c1, c - m, c);
@@ -80,6 +85,20 @@ fn below(m: f64, c: f64, c1: f64) -> Term
         value: f.value - m * d.value / 3.0,
         met: f.met & d.met,
     }
+}
+
+// Both terms are positive for m < 0, and above CANCELLING their difference keeps its digits. Far out RD's own value is no f64, so the scaling stands here and not in RD.
+fn below(m: f64, c: f64, c1: f64) -> Term
+    ensures { λ r. ⌜ r ≡ belowOf m c c1 ⌝ }
+{
+    if large(m, c) | (m > CANCELLING) {
+        let t = two_terms(m / SCALE, c / SCALE, c1 / SCALE);
+        return Term {
+            value: t.value / ROOT_OF_SCALE,
+            met: t.met,
+        };
+    }
+    two_terms(m, c, c1)
 }
 
 fn above(m: f64, c: f64, c1: f64) -> Term
@@ -97,7 +116,7 @@ fn above(m: f64, c: f64, c1: f64) -> Term
 fn recipe(m: f64, s2: f64, c2: f64) -> Term
     ensures { λ r. ⌜ r ≡ recipeOf m s2 c2 ⌝ }
 {
-    if m < 0.0 {
+    if (m < 0.0) | (m > CANCELLING) {
         return below(m, 1.0 / s2, c2 / s2);
     }
     above(m, 1.0 / s2, c2 / s2)

@@ -13,6 +13,7 @@ use Rattle.legendre.specs.Ellipk.{kUncheckedOf}
 use Rattle.rf.specs.Rf.{rfOf}
 use Rattle.answer.specs.Settle.{infiniteOf, settledOf, handedOf}
 use Rattle.incomplete.specs.Period.{far-out, foldedOf}
+use Rattle.incomplete.specs.Scaling.{λ4, √λ, largeOf}
 use Rattle.answer.specs.declared.Term.{Term}
 
 -- the Rust's `signum`, by the sign bit: -0 has -1 (NaN is refused before)
@@ -39,7 +40,7 @@ middleOf m c c1 =
     let cross = magnitudeOf (c ⊘ m) in
     cond (dec 9 1 <· cross && cross <· dec 11 1) (c1 ⊕ 1·0 ⊖ m) (c ⊖ m)
 
--- the homogeneous form where c = 1 / sin² is infinite; else DLMF 19.25.5, c1 = cos² / sin² being c - 1
+-- the homogeneous form where c = 1 / sin² is infinite; else DLMF 19.25.5, c1 = cos² / sin² being c - 1. RF has the degree -1/2: of arguments divided by λ it is √λ times as large
 unfoldable pub recipeOf : Float → Float → Float → Float → Term
 recipeOf s m sine cosine =
     let s2 = sine ⊗ sine in
@@ -47,8 +48,12 @@ recipeOf s m sine cosine =
     let c = 1·0 ⊘ s2 in
     let c1 = c2 ⊘ s2 in
     let tiny = rfOf c2 (1·0 ⊖ m ⊗ sine ⊗ sine) 1·0 in
-    let plain = rfOf c1 (middleOf m c c1) c in
-    cond (infiniteOf c) (record { value = s ⊗ sine ⊗ tiny .value; met = tiny .met }) (record { value = s ⊗ plain .value; met = plain .met })
+    let y = middleOf m c c1 in
+    let plain = rfOf c1 y c in
+    let scaled = rfOf (c1 ⊘ λ4) (y ⊘ λ4) (c ⊘ λ4) in
+    when infiniteOf c gives record { value = s ⊗ sine ⊗ tiny .value; met = tiny .met } else
+    when largeOf m c gives record { value = s ⊗ (scaled .value ⊘ √λ); met = scaled .met } else
+    record { value = s ⊗ plain .value; met = plain .met }
 
 -- F(φ, -∞) = 0 where there is no finite answer; else 5, and then 6
 unfoldable pub closedOf : Float → Bool → Float → Answer

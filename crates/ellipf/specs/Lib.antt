@@ -1,3 +1,4 @@
 -- What the contract cites (Ellipf), and what is proved of it (laws).
 pub mod Ellipf
+pub mod Clear
 pub mod laws

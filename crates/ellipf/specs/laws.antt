@@ -4,3 +4,4 @@ pub mod Values
 pub mod Angles
 pub mod Identities
 pub mod Corners
+pub mod Scaled

@@ -10,8 +10,11 @@ use answer::infinity;
 use answer::settled;
 use incomplete::FAR_OUT;
 use incomplete::HALF_PI;
+use incomplete::ROOT_OF_SCALE;
+use incomplete::SCALE;
 use incomplete::cosine;
 use incomplete::folded;
+use incomplete::large;
 use incomplete::sine;
 use rf::rf;
 ghost use mathlib.Core.Path.{_≡_};
@@ -78,7 +81,15 @@ fn recipe(s: f64, m: f64, sine: f64, cosine: f64) -> Term
         };
     }
     let c1 = c2 / s2;
-    let f = rf(c1, middle(m, c, c1), c);
+    let y = middle(m, c, c1);
+    if large(m, c) {
+        let f = rf(c1 / SCALE, y / SCALE, c / SCALE);
+        return Term {
+            value: s * (f.value / ROOT_OF_SCALE),
+            met: f.met,
+        };
+    }
+    let f = rf(c1, y, c);
     Term {
         value: s * f.value,
         met: f.met,

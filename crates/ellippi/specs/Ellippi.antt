@@ -1,7 +1,7 @@
 -- ellippi (01, "ellippi, in this order"); each arm has the operations of ellippi.rs, in its order. Definitions only.
-use mathlib.Core.Bool.{true, _||_, _&&_}
+use mathlib.Core.Bool.{true, cond, _||_, _&&_}
 use lib.Ieee.{Float, neg}
-use Rattle.laws.specs.Arithmetic.{_⊕_, _⊖_, _⊗_, _⊘_, _<·_, _=·_, _≠·_, +0, -∞, π/2, 1·0, 3·0}
+use Rattle.laws.specs.Arithmetic.{_⊕_, _⊖_, _⊗_, _⊘_, _<·_, _=·_, _≠·_, float, +0, -∞, π/2, 1·0, 3·0}
 use Rattle.laws.specs.Ladder.{when_gives_else_}
 use Rattle.answer.specs.Answer.{valueOf}
 use Rattle.answer.specs.declared.Answer.{Answer}
@@ -30,6 +30,14 @@ principalOf n m =
     let j = rjOf +0 (1·0 ⊖ m) 1·0 (1·0 ⊖ m ⊘ n) in
     record { value = neg (1·0 ⊘ 3·0) ⊗ m ⊘ n ⊗ j .value; met = j .met }
 
+-- 2^500
+abbrev pub far : Float
+far = float 0x5f30_0000_0000_0000
+
+-- the factor of RJ for n < 0, m < 0: -n (1 - m) / (3 (1 - n)²); from 1 - n above 2^500 on, where that square is no f64, the quotients come first
+unfoldable pub weightOf : Float → Float → Float → Float
+weightOf n rn rm = cond (far <· rn) (neg n ⊘ rn ⊗ (rm ⊘ 3·0 ⊘ rn)) (neg n ⊗ rm ⊘ (3·0 ⊗ rn ⊗ rn))
+
 -- n < 0, m < 0: DLMF 19.6.2 where n = m, else the file's form without m - n
 unfoldable pub bothBelowOf : Float → Float → Term
 bothBelowOf n m =
@@ -37,7 +45,7 @@ bothBelowOf n m =
     let rm = 1·0 ⊖ m in
     let j = rjOf +0 rm 1·0 (rm ⊘ rn) in
     when m =· n gives plainTerm (valueOf (ellipeOf m) ⊘ (1·0 ⊖ m)) else
-    record { value = valueOf (ellipkOf m) ⊘ rn ⊕ neg n ⊗ rm ⊘ (3·0 ⊗ rn ⊗ rn) ⊗ j .value; met = j .met }
+    record { value = valueOf (ellipkOf m) ⊘ rn ⊕ weightOf n rn rm ⊗ j .value; met = j .met }
 
 -- n < 0, m ≥ 0 (A&S 17.7.17)
 unfoldable pub firstBelowOf : Float → Float → Term

@@ -12,7 +12,7 @@ use incomplete::complete_k;
 use rf::rf;
 use rj::rj;
 ghost use mathlib.Core.Path.{_≡_};
-ghost use Rattle.ellippi.specs.Ellippi.{plainTerm, fromRestOf, principalOf, bothBelowOf, firstBelowOf, firstZeroOf, diagonalOf, armsOf, ellippiOf};
+ghost use Rattle.ellippi.specs.Ellippi.{plainTerm, fromRestOf, principalOf, weightOf, bothBelowOf, firstBelowOf, firstZeroOf, diagonalOf, armsOf, ellippiOf};
 
 // A formula that asks no recipe.
 fn plain_term(value: f64) -> Term
@@ -43,6 +43,18 @@ fn principal(n: f64, m: f64) -> Term
     }
 }
 
+// 2^500: the square of a number above 2^511 is no f64.
+const FAR: f64 = 3.273390607896142e150;
+
+fn weight(n: f64, rn: f64, rm: f64) -> f64
+    ensures { λ r. ⌜ r ≡ weightOf n rn rm ⌝ }
+{
+    if rn > FAR {
+        return -n / rn * (rm / 3.0 / rn);
+    }
+    (-n) * rm / (3.0 * rn * rn)
+}
+
 fn both_below(n: f64, m: f64) -> Term
     ensures { λ r. ⌜ r ≡ bothBelowOf n m ⌝ }
 {
@@ -53,9 +65,10 @@ fn both_below(n: f64, m: f64) -> Term
     let rn = 1.0 - n;
     let rm = 1.0 - m;
     let k = complete_k(m);
+    let w = weight(n, rn, rm);
     let j = rj(0.0, rm, 1.0, rm / rn);
     Term {
-        value: k / rn + (-n) * rm / (3.0 * rn * rn) * j.value,
+        value: k / rn + w * j.value,
         met: j.met,
     }
 }

@@ -1,3 +1,4 @@
--- What the contracts cite (Period), and what is proved of it (laws).
+-- What the contracts cite (Period, Scaling), and what is proved of it (laws).
 pub mod Period
+pub mod Scaling
 pub mod laws

@@ -7,6 +7,7 @@ ghost use Rattle.angle.specs.Cosine.{cosineOf};
 ghost use Rattle.legendre.specs.Ellipk.{ellipkOf};
 ghost use Rattle.legendre.specs.Ellipe.{ellipeOf};
 ghost use Rattle.incomplete.specs.Period.{foldedOf};
+ghost use Rattle.incomplete.specs.Scaling.{largeOf};
 
 pub const PI: f64 = 3.141592653589793;
 
@@ -14,6 +15,13 @@ pub const HALF_PI: f64 = 1.5707963267948966;
 
 // 2^52: a larger |φ| is not reduced.
 pub const FAR_OUT: f64 = 4503599627370496.0;
+
+// 2^200: from there on what the recipes are asked is divided by 4^256, and what they give by its root or as the formula has it.
+const HUGE: f64 = 1.6069380442589903e60;
+
+pub const SCALE: f64 = 1.3407807929942597e154;
+
+pub const ROOT_OF_SCALE: f64 = 1.157920892373162e77;
 
 // K, E, sine and cosine as a formula goes on with them: NaN for a refusal, the file's `unwrap_or(nan!())`.
 pub fn complete_k(m: f64) -> f64
@@ -65,4 +73,12 @@ pub fn folded(size: f64) -> Fold
         mm,
         s: 1.0,
     }
+}
+
+// Whether c or |m| is so large that the recipes want their arguments scaled.
+pub fn large(m: f64, c: f64) -> bool
+    ensures { λ r. ⌜ r ≡ largeOf m c ⌝ }
+{
+    let size = whole::magnitude(m);
+    (c > HUGE) | (size > HUGE)
 }

@@ -13,3 +13,4 @@ pub mod Sizes
 pub mod Units
 pub mod Bounds
 pub mod Cuts
+pub mod Scaled

@@ -1,3 +1,4 @@
 -- What is proved of the definition.
 pub mod Unmet
 pub mod Corners
+pub mod Scaled

@@ -5,6 +5,7 @@
 use carlson::Outcome;
 use carlson::fifth;
 use carlson::larger;
+use carlson::trusted;
 ghost use mathlib.Core.Path.{_≡_};
 ghost use Rattle.rd.specs.Rd.{startOf, stopsOf, roundOf, closedOf, rdOf};
 
@@ -78,8 +79,9 @@ impl State {
             xy * zz * z,
         );
         let tail = self.scale * series / (self.mean * root::root(self.mean));
+        let value = trusted(tail + 3.0 * self.sum);
         Outcome {
-            value: tail + 3.0 * self.sum,
+            value,
             met: self.stops(),
             rounds,
             inside: 0,

@@ -10,10 +10,10 @@ use Rattle.carlson.specs.Series.{largerOf}
 use Rattle.carlson.specs.declared.Outcome.{Outcome}
 use Rattle.rf.specs.declared.State.{State}
 
--- the mean A, of quarters, so that three large arguments do not overflow it, and the largest distance between A and an argument
+-- the mean A, and the largest distance between A and an argument
 unfoldable pub startOf : Float → Float → Float → State
 startOf x y z =
-    let mean = 4·0 ⊗ ((x ⊘ 4·0 ⊕ y ⊘ 4·0 ⊕ z ⊘ 4·0) ⊘ 3·0) in
+    let mean = (x ⊕ y ⊕ z) ⊘ 3·0 in
     record { x = x; y = y; z = z; mean = mean; distance = largerOf (largerOf (magnitudeOf (mean ⊖ x)) (magnitudeOf (mean ⊖ y))) (magnitudeOf (mean ⊖ z)) }
 
 -- the distance, quartered once a round, is below A / 512

@@ -1,3 +1,5 @@
 -- What is proved of the definition.
 pub mod Unmet
 pub mod Corners
+pub mod Scaled
+pub mod Point

@@ -19,8 +19,7 @@ impl State {
     fn start(x: f64, y: f64, z: f64) -> State
         ensures { λ r. ⌜ r ≡ startOf x y z ⌝ }
     {
-        // Of quarters: the sum of three large arguments would overflow.
-        let mean = 4.0 * ((x / 4.0 + y / 4.0 + z / 4.0) / 3.0);
+        let mean = (x + y + z) / 3.0;
         let dx = whole::magnitude(mean - x);
         let dy = whole::magnitude(mean - y);
         let dz = whole::magnitude(mean - z);

@@ -6,7 +6,7 @@ use Rattle.laws.specs.Arithmetic.{_⊕_, _⊖_, _⊗_, _⊘_, _<·_, +0, 1·0, 
 use Rattle.root.specs.Root.{rootOf}
 use Rattle.whole.specs.Whole.{magnitudeOf}
 use Rattle.carlson.specs.Loop.{duplicated}
-use Rattle.carlson.specs.Series.{fifthOf, largerOf}
+use Rattle.carlson.specs.Series.{fifthOf, largerOf, trustedOf}
 use Rattle.rc.specs.Rc.{rcOf}
 use Rattle.carlson.specs.declared.Outcome.{Outcome}
 use Rattle.rj.specs.declared.State.{State}
@@ -48,7 +48,7 @@ seriesOf s =
     fifthOf e2 e3 e4 (xyz ⊗ pp)
 
 unfoldable pub closedOf : State → ℕ → Outcome
-closedOf s rounds = record { value = s .scale ⊗ seriesOf s ⊘ (s .mean ⊗ rootOf (s .mean)) ⊕ 6·0 ⊗ s .sum; met = stopsOf s && s .inner; rounds = rounds; inside = s .inside }
+closedOf s rounds = record { value = trustedOf (s .scale ⊗ seriesOf s ⊘ (s .mean ⊗ rootOf (s .mean)) ⊕ 6·0 ⊗ s .sum); met = stopsOf s && s .inner; rounds = rounds; inside = s .inside }
 
 unfoldable pub rjOf : Float → Float → Float → Float → Outcome
 rjOf x y z p = duplicated stopsOf roundOf closedOf (startOf x y z p)

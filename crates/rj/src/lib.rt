@@ -7,6 +7,7 @@
 use carlson::Outcome;
 use carlson::fifth;
 use carlson::larger;
+use carlson::trusted;
 ghost use mathlib.Core.Path.{_≡_};
 ghost use Prim.Native.Nat.{_≤_};
 ghost use Rattle.rj.specs.Rj.{startOf, stopsOf, roundOf, closedOf, rjOf};
@@ -96,8 +97,9 @@ impl State {
         let e4 = (2.0 * xyz + e2 * p + 3.0 * pp * p) * p;
         let series = fifth(e2, e3, e4, xyz * pp);
         let tail = self.scale * series / (self.mean * root::root(self.mean));
+        let value = trusted(tail + 6.0 * self.sum);
         Outcome {
-            value: tail + 6.0 * self.sum,
+            value,
             met: self.stops() & self.inner,
             rounds,
             inside: self.inside,

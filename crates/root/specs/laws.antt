@@ -1,3 +1,4 @@
 -- What the definition means, and 01's corners.
 pub mod Meaning
 pub mod Corners
+pub mod Scaled

@@ -141,7 +141,7 @@ fn agrees_near(kind: u8, s: &[u8]) -> Shown {
     )
 }
 
-// The kernel's functions.
+// Sine, cosine and logarithm.
 fn computed(kind: u8, x: f64) -> Answer {
     if kind == 11 {
         return angle::sine(x);

@@ -33,6 +33,7 @@ use Rattle.incomplete.specs.declared.Fold.{Fold}
 use Rattle.answer.specs.Settle.{infiniteOf, finiteOf, settledOf, handedOf}
 use Rattle.laws.specs.laws.Kinds.{differs-is}
 use Rattle.incomplete.specs.Period.{far-out, foldedOf}
+use Rattle.incomplete.specs.Scaling.{λ4, largeOf}
 use Rattle.ellipf.specs.Ellipf.{signumOf, poleOf, farOf, middleOf, recipeOf, closedOf, withPeriodsOf, reducedOf, ellipfOf}
 use Rattle.whole.specs.laws.Magnitude.{magnitude-inf, magnitude-fin, magnitude-neg}
 use Rattle.laws.specs.laws.Signs.{mul-neg, square-neg, plain, round-plain}
@@ -181,6 +182,11 @@ unfolding sub add neg ofBits
 lost-from nan h = tt
 lost-from (inf s) h = tt
 
+lost-over : (x : Float) → Lost x → Lost (x ⊘ λ4)
+unfolding div ofBits
+lost-over nan h = tt
+lost-over (inf s) h = tt
+
 lost-middle : (c c1 : Float) → Lost (middleOf -∞ c c1)
 unfolding middleOf
 lost-middle c c1 = go (dec 9 1 <· magnitudeOf (c ⊘ -∞) && magnitudeOf (c ⊘ -∞) <· dec 11 1)
@@ -202,7 +208,7 @@ either-met false x y h k = k
 
 never-met : (s sine cosine : Float) → recipeOf s -∞ sine cosine .met ≡ false
 unfolding recipeOf
-never-met s sine cosine = either-met (infiniteOf (1·0 ⊘ (sine ⊗ sine))) _ _ tiny plain
+never-met s sine cosine = either-met (infiniteOf (1·0 ⊘ (sine ⊗ sine))) _ _ tiny (either-met (largeOf -∞ (1·0 ⊘ (sine ⊗ sine))) _ _ scaled plain)
   where
     s2 : Float
     s2 = sine ⊗ sine
@@ -215,6 +221,12 @@ never-met s sine cosine = either-met (infiniteOf (1·0 ⊘ (sine ⊗ sine))) _ _
 
     tiny : rfOf c2 (1·0 ⊖ -∞ ⊗ sine ⊗ sine) 1·0 .met ≡ false
     tiny = rf-unmet c2 (1·0 ⊖ -∞ ⊗ sine ⊗ sine) 1·0 (second-lost c2 (1·0 ⊖ -∞ ⊗ sine ⊗ sine) 1·0 (lost-from (-∞ ⊗ sine ⊗ sine) (lost-mul (-∞ ⊗ sine) sine (lost-mul -∞ sine infinity))))
+
+    y : Float
+    y = middleOf -∞ (1·0 ⊘ s2) (c2 ⊘ s2)
+
+    scaled : rfOf (c2 ⊘ s2 ⊘ λ4) (y ⊘ λ4) (1·0 ⊘ s2 ⊘ λ4) .met ≡ false
+    scaled = rf-unmet (c2 ⊘ s2 ⊘ λ4) (y ⊘ λ4) (1·0 ⊘ s2 ⊘ λ4) (second-lost (c2 ⊘ s2 ⊘ λ4) (y ⊘ λ4) (1·0 ⊘ s2 ⊘ λ4) (lost-over y (lost-middle (1·0 ⊘ s2) (c2 ⊘ s2))))
 
     plain : rfOf (c2 ⊘ s2) (middleOf -∞ (1·0 ⊘ s2) (c2 ⊘ s2)) (1·0 ⊘ s2) .met ≡ false
     plain = rf-unmet (c2 ⊘ s2) (middleOf -∞ (1·0 ⊘ s2) (c2 ⊘ s2)) (1·0 ⊘ s2) (second-lost (c2 ⊘ s2) (middleOf -∞ (1·0 ⊘ s2) (c2 ⊘ s2)) (1·0 ⊘ s2) (lost-middle (1·0 ⊘ s2) (c2 ⊘ s2)))

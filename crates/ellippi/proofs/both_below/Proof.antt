@@ -12,8 +12,9 @@ returns c = held _ _ (c .before .before .if1 .taken) (rw (← c .before .complet
 returns-2 : tie.Need-returns-2
 unfolding bothBelowOf
 returns-2 c =
-    let k = c .before .before in
-    passed _ _ (k .before .if1 .left) (rw (k .complete-k .ensures, c .before .rj .ensures))
+    let w = c .before .before in
+    let k = w .before in
+    passed _ _ (k .before .if1 .left) (rw (k .complete-k .ensures, w .weight .ensures, c .before .rj .ensures))
 
 pub both-below-spec : {M : Type 1} → statement M
-both-below-spec = tie.close (tie.spec (λ c κs. search needs) (λ c κs. search needs) returns (λ c κs. search needs) (λ c κs. search needs) returns-2)
+both-below-spec = tie.close (tie.spec (λ c κs. search needs) (λ c κs. search needs) returns (λ c κs. search needs) (λ c κs. search needs) (λ c κs. search needs) returns-2)

@@ -4,8 +4,8 @@ use mathlib.Core.Bool.{false, _&&_}
 use lib.Dec.{T}
 use lib.Ieee.{Float, ofBits}
 use lib.Ieee.Scale.{finite}
-use Rattle.laws.specs.Arithmetic.{_⊕_, _⊘_, 3·0, 4·0}
-use Rattle.carlson.specs.laws.Unmet.{Lost, lost-mul, lost-div, both, three, far, far-larger, far-quarter, far-below, far-apart, unmet}
+use Rattle.laws.specs.Arithmetic.{_⊕_}
+use Rattle.carlson.specs.laws.Unmet.{Lost, lost-div, three, far, far-larger, far-quarter, far-below, far-apart, unmet}
 use Rattle.rf.specs.Rf.{startOf, stopsOf, roundOf, closedOf, rfOf}
 
 -- the mean is infinite or NaN: from an argument, or by overflow
@@ -16,15 +16,4 @@ rf-lost x y z h = unmet stopsOf roundOf closedOf (λ s. T (far (s .distance))) (
 -- an argument is infinite or NaN
 pub rf-unmet : (x y z : Float) → Lost (finite x && finite y && finite z) → rfOf x y z .met ≡ false
 unfolding startOf ofBits
-rf-unmet x y z h = rf-lost x y z (lost-mul 4·0 (sum ⊘ 3·0) (lost-div sum _ _ _ (three (x ⊘ 4·0) (y ⊘ 4·0) (z ⊘ 4·0) quarters)))
-  where
-    sum : Float
-    sum = x ⊘ 4·0 ⊕ y ⊘ 4·0 ⊕ z ⊘ 4·0
-
-    quarter : (x : Float) → Lost (finite x) → Lost (finite (x ⊘ 4·0))
-    quarter x h = lost-div x _ _ _ h
-
-    quarters : Lost (finite (x ⊘ 4·0) && finite (y ⊘ 4·0) && finite (z ⊘ 4·0))
-    quarters =
-        both (finite x && finite y) (finite z) (finite (x ⊘ 4·0) && finite (y ⊘ 4·0)) (finite (z ⊘ 4·0))
-        (both (finite x) (finite y) (finite (x ⊘ 4·0)) (finite (y ⊘ 4·0)) (quarter x) (quarter y)) (quarter z) h
+rf-unmet x y z h = rf-lost x y z (lost-div (x ⊕ y ⊕ z) _ _ _ (three x y z h))

@@ -26,7 +26,7 @@ impl InIntegers for f64 {
     }
 
     fn fused(self, y: f64, z: f64) -> f64 {
-        twin::floor::fused(self, y, z)
+        twin::fused::fused(self, y, z)
     }
 }
 '''

@@ -1,5 +1,5 @@
 //! Root and multiply-add: the proved library against the same method in Rust, other methods and the hardware, in one run.
-//! twin: floor
+//! twin: root fused
 mod library;
 mod patterns;
 mod timing;
@@ -49,13 +49,13 @@ fn main() {
     for &x in &roots {
         let r = x.sqrt();
         assert_eq!(library::root(x), r, "library {x:e}");
-        assert_eq!(twin::floor::root(x), r, "twin {x:e}");
+        assert_eq!(twin::root::root(x), r, "twin {x:e}");
         assert_eq!(root_branching(x), r, "branching {x:e}");
         assert_eq!(root_isqrt(x), r, "isqrt {x:e}");
     }
     let mut contest = Contest::new(&roots);
     contest.enter("proved library (over the C face)", 15, library::root);
-    contest.enter("the same method in Rust", 15, twin::floor::root);
+    contest.enter("the same method in Rust", 15, twin::root::root);
     contest.enter("digits with a branch on each, in Rust", 15, root_branching);
     contest.enter("u128::isqrt, in Rust", 15, root_isqrt);
     contest.enter("hardware", 15, f64::sqrt);
@@ -72,7 +72,7 @@ fn main() {
     contest.enter("proved library (over the C face)", 15, library::fused);
     contest.enter("the same method in Rust", 15, |t| {
         let [x, y, z] = floats(t);
-        twin::floor::fused(x, y, z)
+        twin::fused::fused(x, y, z)
     });
     contest.enter("hardware or the C library", 15, |t| {
         let [x, y, z] = floats(t);

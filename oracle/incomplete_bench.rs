@@ -1,6 +1,6 @@
 //! ellippi, ellipeinc and ellipf: the proved library against the same code in Rust and Boost.Math, in one run, and the rounds that Carlson's
 //! recipes make on typical legs: meridian arcs on WGS84, by b·E(β, -e'²).
-//! twin: incomplete functions
+//! twin: functions
 //! c++: boost_calls
 mod library;
 mod patterns;
@@ -54,10 +54,10 @@ fn main() {
     let pi: Vec<(f64, f64)> = (0..4000).map(|_| (between(-10.0, 0.9), between(0.01, 0.9))).collect();
     let e: Vec<(f64, f64)> = (0..4000).map(|_| (between(0.01, 1.57), between(0.01, 0.9))).collect();
     let legs: Vec<(f64, f64)> = (0..4000).map(|_| (between(0.01, 1.57), WGS84)).collect();
-    let ellipeinc: Call = |a, b| value(twin::incomplete::ellipeinc(Amplitude(a), Parameter(b)));
-    contest("ellippi, n from -10 to 0.9, m from 0.01 to 0.9", &pi, |a, b| evaluate(4, a, b), |a, b| value(twin::incomplete::ellippi(Characteristic(a), Parameter(b))), Some(|a, b| boost_ellippi(a, b)));
+    let ellipeinc: Call = |a, b| value(twin::ellipeinc::ellipeinc(Amplitude(a), Parameter(b)));
+    contest("ellippi, n from -10 to 0.9, m from 0.01 to 0.9", &pi, |a, b| evaluate(4, a, b), |a, b| value(twin::ellippi::ellippi(Characteristic(a), Parameter(b))), Some(|a, b| boost_ellippi(a, b)));
     contest("ellipeinc, φ from 0.01 to 1.57, m from 0.01 to 0.9", &e, |a, b| evaluate(5, a, b), ellipeinc, Some(|a, b| boost_ellipeinc(a, b)));
-    contest("ellipf, φ from 0.01 to 1.57, m from 0.01 to 0.9", &e, |a, b| evaluate(6, a, b), |a, b| value(twin::incomplete::ellipf(Amplitude(a), Parameter(b))), Some(|a, b| boost_ellipf(a, b)));
+    contest("ellipf, φ from 0.01 to 1.57, m from 0.01 to 0.9", &e, |a, b| evaluate(6, a, b), |a, b| value(twin::ellipf::ellipf(Amplitude(a), Parameter(b))), Some(|a, b| boost_ellipf(a, b)));
     contest("ellipeinc, legs (m = -e'²)", &legs, |a, b| evaluate(5, a, b), ellipeinc, None);
     let all: Vec<(usize, usize)> = legs.iter().map(|&(a, b)| rounds(a, b)).collect();
     let spread = |name: &str, each: &dyn Fn(&(usize, usize)) -> usize| {

@@ -14,8 +14,8 @@ The script goes to standard output, one call a line, fields one space apart, num
   S sum                              the whole buffer as one number, first byte highest, modulo 2^55 - 55 (16)
 
 Whoever replays it compares each answer, and each S with the bytes of its own buffer. The functions are used only where 01 or 02 names the answer (ellipeinc and ellipf at
-m = 0, at an angle of 0 or beyond, the others at their ends and refusals), so the model holds no elliptic integral."""
-import random, struct, sys
+m = 0, at an angle of 0 or far out, at m = -∞, the others at their ends and refusals), so the model holds no elliptic integral."""
+import math, random, struct, sys
 
 MOST_ROWS, ROW, TOTALS, LAST = 1024, 48, 296, 6
 NAN, PLUS, MINUS = 0x7ff8000000000000, 0x7ff0000000000000, 0xfff0000000000000
@@ -29,6 +29,10 @@ MODULUS = 1 << 2176
 def is_nan(p): return p % SIGN > PLUS
 def is_infinite(p): return p % SIGN == PLUS
 def key(p): return -(p % SIGN) if p >= SIGN else p          # orders the patterns that are no NaN as their values; both zeros are 0
+
+
+def by_floats(p, f):
+    return struct.unpack('<Q', struct.pack('<d', f(struct.unpack('<d', struct.pack('<Q', p))[0])))[0]
 
 
 def units(p):
@@ -79,9 +83,12 @@ def evaluate(f, a, b):
         return None
     if phi % SIGN == 0: return 0, 0, 0
     if m % SIGN == 0: return (1, 0, 0) if is_nan(phi) else (0, phi, 0)
-    if not is_nan(phi) and phi % SIGN >= TOP: return 0, MINUS if phi >= SIGN else PLUS, 0
+    if is_infinite(phi): return 0, phi, 0
     if is_nan(phi): return (2 if not is_nan(m) and key(m) > key(ONE) else 1), 0, 0
     if is_nan(m): return 1, 0, 0
+    if m == MINUS: return 0, MINUS if phi >= SIGN else PLUS, 0
+    if phi % SIGN > FAR and key(m) > key(ONE): return 2, 0, 0
+    if phi % SIGN > FAR and m == ONE: return 0, by_floats(phi, lambda x: x * (2.0 * 1.0 / math.pi)), 0     # E(1) is 1
     return None
 
 
@@ -216,6 +223,7 @@ def value(rng):
 CORNERS = [(1, ONE, 0), (1, MINUS, 0), (1, NAN, 0), (1, ONE + 1, 0), (2, ONE, 0), (2, MINUS, 0), (2, NAN, 0), (2, PLUS, 0), (3, ONE, 0), (3, MINUS, 0), (3, NAN, 0), (3, ONE + 1, 0),
            (4, ONE, ONE), (4, 0x4000000000000000, ONE), (4, 0x3fe0000000000000, ONE), (4, NAN, 0), (4, 0, NAN), (4, ONE, 0x3ff8000000000000), (4, MINUS, 0), (4, 0, MINUS), (4, MINUS, ONE), (4, PLUS, ONE),
            (5, 0, NAN), (5, SIGN, PLUS), (5, TOP, NAN), (5, SIGN + TOP, ONE), (5, MINUS, MINUS), (5, NAN, PLUS), (5, NAN, NAN), (5, NAN, 0), (5, ONE, NAN), (5, MINUS, 0), (5, TOP, SIGN),
+           (5, 1, MINUS), (5, SIGN + ONE, MINUS), (5, NAN, MINUS), (5, 0, MINUS), (5, PLUS, NAN), (5, TOP, ONE), (5, 0x7fe0000000000000, ONE), (5, TOP, ONE + 1),
            (6, NAN, 0), (6, 0, NAN), (6, SIGN, 0), (6, MINUS, SIGN), (6, HALF_PI, ONE), (6, SIGN + HALF_PI, PLUS), (6, PLUS, ONE), (6, PLUS, 0x3fe0000000000000), (6, MINUS, MINUS), (6, ONE, MINUS), (6, FAR, MINUS),
            (6, FAR + 1, MINUS), (6, SIGN + TOP, MINUS), (6, 0, TOP - (1 << 52)), (6, SIGN, 0x3fe0000000000000), (6, SIGN, SIGN + TOP)]
 

@@ -110,7 +110,8 @@ static void functions(void)
     CHECK(evaluates(SM_ELLIPEINC, ONE, sm_pattern(2.0), SM_AMPLITUDE_TOO_LARGE, 0, 0));
     CHECK(evaluates(SM_ELLIPPI, ONE, ONE, SM_CHARACTERISTIC_ONE, 0, 0));
     CHECK(evaluates(SM_ELLIPPI, sm_pattern(2.0), 0xeaa0000000000000 /* -2^683 */, SM_NOT_SETTLED, 0, 0));
-    CHECK(evaluates(SM_ELLIPEINC, 0x0170000000000000 /* 2^-1000 */, MINUS, SM_NO_NUMBER, 0, 0));
+    CHECK(evaluates(SM_ELLIPEINC, 0x0170000000000000 /* 2^-1000 */, MINUS, 0, PLUS, 0));
+    CHECK(evaluates(SM_ELLIPF, 0x4330000000000001 /* 2^52 + 1 */, MINUS, SM_NO_NUMBER, 0, 0));
     CHECK(evaluates(SM_LAST_FUNCTION + 1, 0, 0, SM_NO_SUCH_FUNCTION, 0, 0));
 
     CHECK(sm_evaluate(SM_ELLIPK, 0, 0, 0, NULL, 0) == SM_NOT_A_SHEET);

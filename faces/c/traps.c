@@ -26,9 +26,9 @@ static void check(int holds, const char *what, int line)
 static const int exceptions[] = {FE_INVALID, FE_DIVBYZERO, FE_OVERFLOW, FE_UNDERFLOW, FE_INEXACT};
 /* One function and its arguments for each of them, so that working it out raises it. */
 static const uint64_t raising[][3] = {
-    {SM_ELLIPEINC, 0x0170000000000000, 0xfff0000000000000}, /* 0 times infinity */
+    {SM_ELLIPF, 0x4330000000000001, 0xfff0000000000000},    /* a mean that starts at infinity */
     {SM_ELLIPF, 0, 0x3fe0000000000000},                     /* 1 / sin^2 of 0 */
-    {SM_ELLIPPI, 0xdfe0000000000000, 0xe000000000000000},   /* (-n)(1 - m) at n = -2^511, m = -2^513 */
+    {SM_ELLIPPI, 0xe860000000000000, 0x3fefffffffffffff},   /* the product with -n at n = -2^647, m = 1 - 2^-53 */
     {SM_ELLIPEINC, 0x0170000000000000, 0x0170000000000000}, /* m times the square of 2^-1000 */
     {SM_ELLIPK, 0x3fe0000000000000, 0},
 };

@@ -17,7 +17,7 @@ pub record CornerTable : Type 0 where
   pub complete-integrals : complete.Corners
   -- ellippi at (1, 1), (2, 1), (0.5, 1)
   pub third-kind : ellippi.Corners
-  -- ellipeinc at (0, NaN) and (2^-1000, -∞)
+  -- ellipeinc at (0, NaN) and (2^-1000, -∞), and where 02's [7] put its limits right
   pub second-kind : ellipeinc.Corners
 
 pub corner-table : CornerTable

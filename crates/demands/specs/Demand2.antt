@@ -1,6 +1,6 @@
 -- DEMAND 2, in one place to point to: what makes a library that refuses everything, or answers one constant, no library of these definitions. Each public function's
 -- contract says that it is its definition (`rootOf`, `fusedOf`, `ellipkOf`, ..); here is what the definitions are tied to. The bounds of sine, cosine and logarithm
--- against exact fractions stand in the contracts of the kernel's three functions (SineWithin, CosineWithin, LogarithmWithin). Assumes nothing.
+-- against exact fractions stand in the contracts of sine, cosine and logarithm (SineWithin, CosineWithin, LogarithmWithin). Assumes nothing.
 use mathlib.Core.Path.{_≡_, refl}
 use mathlib.Core.Bool.{Bool, false}
 use Prim.Native.Nat.{ℕ, _*_, _^_, _<_}

@@ -1,6 +1,7 @@
 -- DEMAND 3. For a sheet that the library made blank, or the sheet of any rows that were worked out, and any list of edits, accepted or refused: the sheet is that
 -- of the rows worked out afresh from the last accepted edit of each row. `run`, `after` and `answer` are the definitions that the contracts of `make_blank` and
--- `edit` cite, so this speaks of what the code does. It is one argument for every function number. Assumes nothing.
+-- `edit` cite, so this speaks of what the code does. It is one argument for every function number. It speaks of rows
+-- that this library worked out: a row from before 02's [7] keeps its old answer until it is edited. Assumes nothing.
 use mathlib.Core.Path.{_≡_, ap, _∙_, sym}
 use mathlib.Core.Logic.{_≢_}
 use mathlib.Core.Bool.{true, false, cond}

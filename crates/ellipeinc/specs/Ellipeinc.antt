@@ -1,13 +1,13 @@
--- ellipeinc (01, "ellipeinc, in this order"); each step has the operations of ellipeinc.rs, in its order. Definitions only.
+-- ellipeinc (01, "ellipeinc, in this order", with 02, [7]); each step has the operations of ellipeinc.rs, in its order. Definitions only.
 use mathlib.Core.Bool.{Bool, true, cond, not, _||_, _&&_}
 use lib.Ieee.{Float, neg}
-use Rattle.laws.specs.Arithmetic.{_⊕_, _⊖_, _⊗_, _⊘_, _%%_, _<·_, _≤·_, _=·_, _≠·_, +0, most, π, ε, 1·0, 2·0, 3·0, float}
+use Rattle.laws.specs.Arithmetic.{_⊕_, _⊖_, _⊗_, _⊘_, _<·_, _≤·_, _=·_, _≠·_, +0, +∞, -∞, π, ε, 1·0, 2·0, 3·0, float}
 use Rattle.laws.specs.Ladder.{when_gives_else_}
 use Rattle.answer.specs.Answer.{valueOf}
 use Rattle.answer.specs.declared.Answer.{Answer}
 use Rattle.answer.specs.declared.Answer.the-variants.{One, Infinite, Refused}
 use Rattle.root.specs.Root.{rootOf}
-use Rattle.whole.specs.Whole.{magnitudeOf, floorOf, roundOf}
+use Rattle.whole.specs.Whole.{magnitudeOf, roundOf}
 use Rattle.angle.specs.Sine.{sineOf}
 use Rattle.angle.specs.Cosine.{cosineOf}
 use Rattle.legendre.specs.Ellipe.{ellipeOf}
@@ -29,21 +29,11 @@ itselfOf φ =
     when φ ≠· φ gives Refused 1 else
     handedOf φ
 
--- step 5
+-- step 5: φ·(2·E(m)/π), φ's sign put back last
 unfoldable pub farOf : Float → Float → Float → Answer
 farOf sign size m =
     when 1·0 <· m gives Refused 2 else
-    handedOf (sign ⊗ 2·0 ⊗ size ⊗ valueOf (ellipeOf m) ⊘ π)
-
--- step 6: twice the whole periods and the squared sine of half the rest
-abbrev pub halfRest : Float → Float
-halfRest size = size %% π ⊘ 2·0
-
-unfoldable pub steepOf : Float → Float → Float → Answer
-steepOf sign size m =
-    let periods = floorOf (size ⊘ π) in
-    let h = valueOf (sineOf (halfRest size)) in
-    handedOf (sign ⊗ (2·0 ⊗ (periods ⊕ h ⊗ h)) ⊗ rootOf (neg m))
+    handedOf (sign ⊗ (size ⊗ (2·0 ⊗ valueOf (ellipeOf m) ⊘ π)))
 
 -- step 7: mm is the rounded |φ| / π
 abbrev pub halfTurns : Float → Float
@@ -108,20 +98,20 @@ reducedOf sign size m =
     when ownOf (f .angle) m gives withPeriodsOf sign m (f .mm) true (f .s ⊗ f .angle) else
     byRecipeOf sign m f
 
--- steps 5 to 8, on |φ|; sign is φ's
+-- steps 5, 7 and 8, on |φ|; sign is φ's
 unfoldable pub onSizeOf : Float → Float → Float → Answer
 onSizeOf sign size m =
     when far-out <· size gives farOf sign size m else
-    when m ≤· neg most gives steepOf sign size m else
     when m =· 1·0 gives lineOf sign size else
     reducedOf sign size m
 
--- steps 1 to 4
+-- steps 1 to 4, and 6 (02, [7]): only an infinite φ is infinite by itself, and m = -∞ makes every other φ so
 unfoldable pub ellipeincOf : Float → Float → Answer
 ellipeincOf φ m =
     when φ =· +0 gives One +0 else
     when m =· +0 gives itselfOf φ else
-    when most ≤· magnitudeOf φ gives Infinite (φ <· +0) else
+    when magnitudeOf φ =· +∞ gives Infinite (φ <· +0) else
     when φ ≠· φ && 1·0 <· m gives Refused 2 else
     when φ ≠· φ || m ≠· m gives Refused 1 else
+    when m =· -∞ gives Infinite (φ <· +0) else
     onSizeOf (signOf φ) (magnitudeOf φ) m

@@ -1,3 +1,4 @@
 -- What the contract cites (Ellipeinc), and what is proved of it (laws).
 pub mod Ellipeinc
+pub mod Clear
 pub mod laws

@@ -3,3 +3,4 @@ pub mod Values
 pub mod Identities
 pub mod Angles
 pub mod Corners
+pub mod Scaled

@@ -1,10 +1,11 @@
 // The incomplete integral of the second kind, E(φ, m) = ∫ √(1 - m sin²ϑ) dϑ from 0 to φ (DLMF 19.2.5).
-// Domain: m sin²φ < 1; m ≤ 1 where φ reaches beyond a quarter period. Steps 1 to 8 are 01's; order of operations: ellipeinc.rs.
+// Domain: m sin²φ < 1; m ≤ 1 where φ reaches beyond a quarter period. Steps are 01's, with 02's [7]; order of operations: ellipeinc.rs.
 use answer::Amplitude;
 use answer::Answer;
 use answer::Parameter;
 use answer::Term;
 use answer::handed;
+use answer::infinity;
 use incomplete::FAR_OUT;
 use incomplete::Fold;
 use incomplete::PI;
@@ -18,10 +19,7 @@ use incomplete::sine;
 use rd::rd;
 use rf::rf;
 ghost use mathlib.Core.Path.{_≡_};
-ghost use Rattle.ellipeinc.specs.Ellipeinc.{signOf, itselfOf, farOf, steepOf, lineOf, ownOf, twoTermsOf, belowOf, aboveOf, recipeOf, withPeriodsOf, byRecipeOf, reducedOf, onSizeOf, ellipeincOf};
-
-// The largest finite f64.
-const MOST: f64 = 1.7976931348623157e308;
+ghost use Rattle.ellipeinc.specs.Ellipeinc.{signOf, itselfOf, farOf, lineOf, ownOf, twoTermsOf, belowOf, aboveOf, recipeOf, withPeriodsOf, byRecipeOf, reducedOf, onSizeOf, ellipeincOf};
 
 // 2^12
 const CANCELLING: f64 = 4096.0;
@@ -48,17 +46,7 @@ fn far(sign: f64, size: f64, m: f64) -> Answer
         return Answer::Refused(2);
     }
     let e = complete_e(m);
-    handed(sign * 2.0 * size * e / PI)
-}
-
-fn steep(sign: f64, size: f64, m: f64) -> Answer
-    ensures { λ r. ⌜ r ≡ steepOf sign size m ⌝ }
-{
-    let periods = whole::floor(size / PI);
-    let rest = remainder::remainder(size, PI);
-    let h = sine(rest / 2.0);
-    let area = 2.0 * (periods + h * h);
-    handed(sign * area * root::root(-m))
+    handed(sign * (size * (2.0 * e / PI)))
 }
 
 fn line(sign: f64, size: f64) -> Answer
@@ -160,15 +148,12 @@ fn reduced(sign: f64, size: f64, m: f64) -> Answer
     by_recipe(sign, m, f)
 }
 
-// Steps 5 to 8.
+// Steps 5, 7 and 8.
 fn on_size(sign: f64, size: f64, m: f64) -> Answer
     ensures { λ r. ⌜ r ≡ onSizeOf sign size m ⌝ }
 {
     if size > FAR_OUT {
         return far(sign, size, m);
-    }
-    if m <= -MOST {
-        return steep(sign, size, m);
     }
     if m == 1.0 {
         return line(sign, size);
@@ -188,7 +173,8 @@ pub fn ellipeinc(phi: Amplitude, m: Parameter) -> Answer
     if m == 0.0 {
         return itself(phi);
     }
-    if size >= MOST {
+    let top = infinity(false);
+    if size == top {
         return Answer::Infinite(phi < 0.0);
     }
     if (phi != phi) & (m > 1.0) {
@@ -196,6 +182,10 @@ pub fn ellipeinc(phi: Amplitude, m: Parameter) -> Answer
     }
     if (phi != phi) | (m != m) {
         return Answer::Refused(1);
+    }
+    let bottom = infinity(true);
+    if m == bottom {
+        return Answer::Infinite(phi < 0.0);
     }
     let sign = sign(phi);
     on_size(sign, size, m)

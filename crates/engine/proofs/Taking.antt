@@ -9,7 +9,7 @@ use lib.ListN.{length, take, drop, drop-of-length-le}
 use lib.Seq.{take-all}
 use lib.Dec.{eqb}
 use borrow.Author.Tests.{lt-ltb, le-ltb}
-use Rattle.line.specs.Long.{below}
+use Rattle.line.specs.laws.Long.{below}
 use Rattle.line.specs.declared.Number.{Number}
 use Rattle.line.specs.declared.Number.the-variants.{Value, Not}
 use Rattle.line.specs.declared.Line.{Line}

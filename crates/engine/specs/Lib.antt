@@ -1,8 +1,5 @@
--- The run as a whole, the machine that makes it byte by byte, and the laws: however the input is cut they agree (Law), and what is entered is what is
--- printed (Entered); then why that is so.
+-- The run as a whole, the machine that makes it byte by byte, and what is proved of the two (laws).
 pub mod Run
 pub mod Machine
-pub mod Law
 pub mod Input
-pub mod Entered
 pub mod laws

@@ -15,7 +15,7 @@ use Rattle.line.specs.declared.Number.{Number}
 use Rattle.line.specs.declared.Line.{Line}
 use Rattle.line.specs.declared.Line.the-variants.{Malformed}
 use Rattle.line.specs.Line.{fieldsOf, editFrom, lineOf}
-use Rattle.line.specs.Long.{some-field, no-third, pattern-other}
+use Rattle.line.specs.laws.Long.{some-field, no-third, pattern-other}
 use Rattle.line.specs.Reading.{numberOf, fieldsFrom, Taken}
 use Rattle.line.proofs.Parts.{none-from, fields-from}
 

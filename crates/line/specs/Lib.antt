@@ -1,5 +1,4 @@
--- What the contracts cite, and what is proved of it.
+-- What the contracts cite, and what is proved of it (laws).
 pub mod Line
 pub mod Reading
-pub mod Long
-pub mod Examples
+pub mod laws

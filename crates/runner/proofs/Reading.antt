@@ -10,7 +10,7 @@ use lib.ListN.{take}
 use Rattle.page.specs.Writing.{Put}
 use Rattle.engine.specs.Run.{zeros}
 use Rattle.engine.specs.Machine.{Room, room, startOf}
-use Rattle.engine.specs.Law.{front}
+use Rattle.engine.specs.laws.Law.{front}
 use Rattle.runner.specs.Reads.{read, Next, last, go-on, spent, mostReads, textOf, OneRead, SomeReads, Ran}
 
 -- the answer as it was, after it was passed on

@@ -69,7 +69,7 @@ pub extern "C" fn sm_remainder(x: u64, y: u64) -> u64
     bits::to_pattern(remainder::remainder(bits::from_pattern(x), bits::from_pattern(y)))
 }
 
-// The kernel: a refused argument has NaN for its value.
+// Sine, cosine and logarithm: a refused argument has NaN for its value.
 #[no_mangle]
 pub extern "C" fn sm_sine(x: u64) -> u64
     ensures { λ r. ⌜ r ≡ toBits binary64 (valueOf (sineOf (ofBits binary64 x))) ⌝ }

@@ -97,7 +97,11 @@ class Named(unittest.TestCase):
         self.assertEqual(shuttlemint.ellippi(2.0, 1.0), -inf)
         self.assertEqual(shuttlemint.ellippi(0.5, 1.0), inf)
         self.assertEqual(pattern(shuttlemint.ellipeinc(0.0, math.nan)), 0)
-        self.assertEqual(shuttlemint.ellipeinc(2.0**-1000, -inf, refused="mask").mask, 6)
+        self.assertEqual(shuttlemint.ellipeinc(2.0**-1000, -inf), inf)
+        self.assertEqual(shuttlemint.ellipeinc(-(2.0**-1074), -inf), -inf)
+        self.assertEqual(shuttlemint.ellipeinc(inf, math.nan), inf)
+        self.assertLess(shuttlemint.ellipeinc(2.0**1023, 1.0), inf)
+        self.assertEqual(shuttlemint.ellipf(2.0**52 + 1, -inf, refused="mask").mask, 6)
         self.assertAlmostEqual(shuttlemint.ellippi(0.5, 0.5), 2.7012877620953506, delta=2.0**-36)
         self.assertAlmostEqual(shuttlemint.ellipeinc(math.pi / 4, 0.5), 0.7481865041776612, delta=2.0**-36)
 
@@ -143,7 +147,7 @@ class Refusals(unittest.TestCase):
         3: lambda: shuttlemint.ellipeinc(1.0, 2.0),
         4: lambda: shuttlemint.ellippi(1.0, 0.5),
         5: lambda: shuttlemint.ellippi(2.0, -(2.0**683)),
-        6: lambda: shuttlemint.ellipeinc(2.0**-1000, -math.inf),
+        6: lambda: shuttlemint.ellipf(2.0**52 + 1, -math.inf),
         9: lambda: shuttlemint.evaluate(LAST + 1),
     }
 

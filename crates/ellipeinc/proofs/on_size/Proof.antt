@@ -1,4 +1,4 @@
--- Down steps 5 to 8: the i-th return passed the tests before its own.
+-- Down steps 5, 7 and 8: the i-th return passed the tests before its own.
 use Rattle.laws.specs.Ladder.{held, passed}
 use Rattle.ellipeinc.specs.Ellipeinc.{onSizeOf}
 use borrow.Author.Needs.{needs}
@@ -16,23 +16,14 @@ unfolding onSizeOf
 returns-2 c =
     let t2 = c .before in
     let t1 = t2 .before in
-    passed _ _ (t1 .if1 .left) (held _ _ (t2 .if2 .taken) (c .steep .ensures))
+    passed _ _ (t1 .if1 .left) (held _ _ (t2 .if2 .taken) (c .line .ensures))
 
 returns-3 : tie.Need-returns-3
 unfolding onSizeOf
 returns-3 c =
-    let t3 = c .before in
-    let t2 = t3 .before in
+    let t2 = c .before in
     let t1 = t2 .before in
-    passed _ _ (t1 .if1 .left) (passed _ _ (t2 .if2 .left) (held _ _ (t3 .if3 .taken) (c .line .ensures)))
-
-returns-4 : tie.Need-returns-4
-unfolding onSizeOf
-returns-4 c =
-    let t3 = c .before in
-    let t2 = t3 .before in
-    let t1 = t2 .before in
-    passed _ _ (t1 .if1 .left) (passed _ _ (t2 .if2 .left) (passed _ _ (t3 .if3 .left) (c .reduced .ensures)))
+    passed _ _ (t1 .if1 .left) (passed _ _ (t2 .if2 .left) (c .reduced .ensures))
 
 pub on-size-spec : {M : Type 1} → statement M
-on-size-spec = tie.close (tie.spec (λ c κs. search needs) returns (λ c κs. search needs) returns-2 (λ c κs. search needs) returns-3 (λ c κs. search needs) returns-4)
+on-size-spec = tie.close (tie.spec (λ c κs. search needs) returns (λ c κs. search needs) returns-2 (λ c κs. search needs) returns-3)

@@ -1,52 +1,32 @@
--- The other angles whose sine ellipeinc asks for are at most 4 in size too, so refusal 12 can't arise: half the remainder by π (step 6), and |φ| - mm·π for |φ| ≤ 2^52 (step 7). Assumes nothing.
+-- The other angle whose sine ellipeinc asks for is at most 4 in size too, so refusal 12 can't arise: |φ| - mm·π for |φ| ≤ 2^52 (step 7). Assumes nothing.
 use mathlib.Core.Path.{_≡_, refl, sym, ap, subst}
 use Prim.Native.Nat.{ℕ, _+_, _*_, _^_, _≤_, _<_}
 use native.Mathlib.Nat.{le-trans, mul-pos, mul-le-mul-right, mul-lt-mul-of-pos-right, le-of-mul-le-mul-right}
 use native.Mathlib.Omega.{arith}
-use mathlib.Core.Bool.{true, false, true≢false}
+use mathlib.Core.Bool.{false}
 use lib.IntN.{ℤ, pos}
 use lib.Dec.{T, lit≤, lit<}
 use lib.Pow.{pow-pos}
-use lib.Ieee.{Float, nan, inf, fin, binary64, up, down, round, div, ofBits}
+use lib.Ieee.{Float, fin, binary64, up, down, round, div, ofBits}
 use lib.Ieee.Fits.{down-pos}
 use lib.Ieee.Exact.{HasValue}
 use lib.Ieee.Back.{round-whole}
 use lib.Ieee.Scale.{finite}
-use Rattle.laws.specs.Arithmetic.{_⊗_, _⊘_, _<·_, _≤·_, _≠·_, π, 2·0, 4·0}
+use Rattle.laws.specs.Arithmetic.{_⊗_, _⊘_, _<·_, _≤·_, _≠·_, π, 4·0}
 use Rattle.laws.specs.laws.Kinds.{not-nan}
 use Rattle.laws.specs.laws.Rounding.{Near}
 use Rattle.whole.specs.Whole.{magnitudeOf, halfUp}
 use Rattle.whole.specs.laws.Meaning.{half-is, round-fraction}
 use Rattle.incomplete.specs.Period.{far-out}
-use Rattle.incomplete.specs.laws.Angles.{P, small-le, rest-small}
-use Rattle.ellipeinc.specs.Ellipeinc.{halfRest, halfTurns, lineRest}
+use Rattle.incomplete.specs.laws.Angles.{P, small-le}
+use Rattle.ellipeinc.specs.Ellipeinc.{halfTurns, lineRest}
 use Rattle.whole.specs.laws.Magnitude.{magnitude-fin, within, within-size}
 use Rattle.laws.specs.laws.Operations.{mul-is}
-use Rattle.laws.specs.laws.Cuts.{U, Cut, cut, Small, small-round, left-of, left-small}
+use Rattle.laws.specs.laws.Cuts.{U, Cut, cut, left-of, left-small}
 
 -- the f64 π is P / Q
 abbrev Q : ℕ
 Q = 281474976710656
-
--- half of a small value
-half-small : (y : Float) → Small y false → Small (y ⊘ 2·0) false
-unfolding div ofBits
-half-small nan v = absurd (v .value)
-half-small (inf s) v = absurd (v .value)
-half-small (fin true m e) v = absurd (true≢false (v .value .0))
-half-small (fin false m e) v = small-round false (m * up e * 1) (2 * down e) (mul-pos (lit< tt) (down-pos e)) (go (m * up e) (down e) (v .g) U (pow-pos 1074) (v .value .1) (v .most))
-  where
-    go : (a c g u : ℕ) → 0 < u → a * u ≡ g * c → g ≤ 4 * u → 2 * (a * 1) ≤ 7 * (2 * c)
-    go a c g u H e h =
-        let x : g * c ≤ 4 * u * c = mul-le-mul-right c h in
-        let y : a * u ≤ 4 * c * u = omega arith in
-        let z : a ≤ 4 * c = le-of-mul-le-mul-right y H in
-        omega arith
-
--- ---- step 6
-pub step-6 : (φ : Float) → T (finite φ) → T (magnitudeOf (halfRest (magnitudeOf φ)) ≤· 4·0)
-unfolding ofBits
-step-6 (fin s m e) h = subst (λ (a : Float). T (magnitudeOf (halfRest a) ≤· 4·0)) (sym (magnitude-fin s m e)) (small-le _ false (half-small _ (rest-small m e 47 (lit≤ tt))))
 
 -- ---- step 7: |φ| is a / c ≤ 2 ^ 52. The quotient g is off by at most 1/8, mm by 1/2 from it, the product h by 1/2, so that a / c and h are at most 5/2 apart
 -- 2 ^ 52, and what |φ| / π stays below

@@ -1,36 +1,39 @@
--- 01's corner table, the lines of ellipeinc, by computing. Assumes nothing.
-use mathlib.Core.Path.{_≡_, refl, ap}
-use lib.Ieee.{Float, nan, ofBits, neg, add, sub, mul, div, rem, lt, le, eq, ne, round}
-use Rattle.laws.specs.Arithmetic.{_⊕_, _⊗_, float, +0, +∞, -∞, 1·0, 2·0}
+-- The corner table's lines of ellipeinc (01, with 02's [7]), by computing. Assumes nothing.
+use mathlib.Core.Path.{_≡_, refl}
+use mathlib.Core.Bool.{true, false}
+use lib.Ieee.{Float, nan, ofBits, neg, add, sub, mul, div, lt, le, eq, ne, round, toUnsigned}
+use Rattle.laws.specs.Arithmetic.{float, dec, +0, +∞, -∞, most, ½, 1·0, 2·0}
 use Rattle.answer.specs.Answer.{valueOf}
-use Rattle.answer.specs.declared.Answer.the-variants.{One, Refused}
-use Rattle.root.specs.Root.{rootOf}
-use Rattle.whole.specs.Whole.{magnitudeOf, floorOf}
-use Rattle.angle.specs.Alternating.{squareOf, alternatingOf, upToFour}
-use Rattle.angle.specs.Sine.{sineAt, sineOf}
+use Rattle.answer.specs.declared.Answer.the-variants.{One, Infinite, Refused}
+use Rattle.whole.specs.Whole.{magnitudeOf}
+use Rattle.legendre.specs.Domain.{byDomain, belowOneOf}
+use Rattle.legendre.specs.Ellipe.{eBelowOneOf, ellipeWithin, ellipeOf}
+use Rattle.pieces.specs.Coeffs.{eRows}
+use Rattle.pieces.specs.Piece.{truncatedOf, rowOf, pieceOf, centreOf, ePieceOf}
+use Rattle.pieces.specs.Polyeval.{pairedOf, hornerOf, polyevalOf}
 use Rattle.answer.specs.Settle.{handedOf}
-use Rattle.ellipeinc.specs.Ellipeinc.{ellipeincOf, onSizeOf, steepOf, signOf}
+use Rattle.ellipeinc.specs.Ellipeinc.{ellipeincOf, onSizeOf, farOf, itselfOf, signOf}
 
--- 2^-1000 and its half
+-- 2^-1000
 abbrev pub tiny : Float
 tiny = float 0x0170_0000_0000_0000
 
-abbrev pub half-tiny : Float
-half-tiny = float 0x0160_0000_0000_0000
-
-tiny-sine : valueOf (sineOf half-tiny) ≡ half-tiny
-unfolding valueOf sineOf sineAt upToFour squareOf alternatingOf ofBits round
-tiny-sine = refl
-
--- (2^-1000, -∞): the square of the sine is 0, and 0·∞ is NaN
-steep : ellipeincOf tiny -∞ ≡ Refused 6
-unfolding ellipeincOf onSizeOf steepOf signOf handedOf magnitudeOf floorOf rootOf ofBits lt le eq ne add sub mul div rem neg round
-steep = ap (λ (h : Float). handedOf (1·0 ⊗ (2·0 ⊗ (+0 ⊕ h ⊗ h)) ⊗ +∞)) tiny-sine
-
 pub record Corners : Type 0 where
+  -- 01's table
   pub zero-nan : ellipeincOf +0 nan ≡ One +0
-  pub tiny-steep : ellipeincOf tiny -∞ ≡ Refused 6
+  pub tiny-bottom : ellipeincOf tiny -∞ ≡ Infinite false
+  -- and of [7]: the smallest f64 below zero; an infinite φ with NaN; NaN with m = -∞
+  pub least-bottom : ellipeincOf (float 0x8000_0000_0000_0001) -∞ ≡ Infinite true
+  pub infinite-nan : ellipeincOf +∞ nan ≡ Infinite false
+  pub nan-bottom : ellipeincOf nan -∞ ≡ Refused 1
+  -- 2^1023 and the largest f64 have finite answers, and the refusals that others have
+  pub large-one : ellipeincOf (float 0x7fe0_0000_0000_0000) 1·0 ≡ One (float 0x7fd4_5f30_6dc9_c883)
+  pub most-one : ellipeincOf most 1·0 ≡ One (float 0x7fe4_5f30_6dc9_c882)
+  pub most-half : ellipeincOf most ½ ≡ One (float 0x7feb_83dd_0460_8242)
+  pub most-zero : ellipeincOf most +0 ≡ One most
+  pub most-nan : ellipeincOf most nan ≡ Refused 1
+  pub most-two : ellipeincOf most 2·0 ≡ Refused 2
 
 pub corners : Corners
-unfolding ellipeincOf ofBits lt eq ne sub neg
-corners = record { zero-nan = refl; tiny-steep = steep }
+unfolding ellipeincOf onSizeOf farOf itselfOf signOf handedOf valueOf magnitudeOf ellipeOf ellipeWithin byDomain eBelowOneOf belowOneOf truncatedOf rowOf pieceOf centreOf ePieceOf eRows polyevalOf pairedOf hornerOf dec toUnsigned ofBits lt le eq ne add sub mul div neg round
+corners = record { zero-nan = refl; tiny-bottom = refl; least-bottom = refl; infinite-nan = refl; nan-bottom = refl; large-one = refl; most-one = refl; most-half = refl; most-zero = refl; most-nan = refl; most-two = refl }

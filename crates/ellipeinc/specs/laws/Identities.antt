@@ -3,27 +3,28 @@ use mathlib.Core.Path.{_≡_, refl, sym, ap, ap₂, _∙_}
 use Prim.Native.Nat.{ℕ, zero, suc, _+_, _*_, _<_}
 use native.Mathlib.Omega.{arith}
 use mathlib.Core.Bool.{Bool, true, false, not, cond, _&&_, _||_, true≢false}
+use borrow.Author.Tests.{ne-eqb}
 use lib.IntN.{ℤ}
 use lib.Arith.{le→nltb}
 use lib.Dec.{T, eqb, ltb, eqb→eq}
-use lib.Ieee.{Float, nan, inf, fin, binary64, up, down, neg, lt, le, eq, ne, ofBits, isNan}
+use lib.Ieee.{Float, nan, inf, fin, binary64, up, down, neg, mul, div, lt, le, eq, ne, ofBits, isNan}
 use lib.Ieee.Bits.{is-false}
 use lib.Ieee.Scale.{finite}
-use Rattle.laws.specs.Arithmetic.{_⊗_, _⊘_, _<·_, _≤·_, _=·_, _≠·_, +0, most, π, 1·0, 2·0}
+use Rattle.laws.specs.Arithmetic.{_⊗_, _⊘_, _<·_, _≤·_, _=·_, _≠·_, +0, +∞, -∞, π, 1·0, 2·0}
 use Rattle.laws.specs.laws.Flags.{is-some}
 use Rattle.laws.specs.Ladder.{held, passed}
 use Rattle.answer.specs.Answer.{valueOf}
 use Rattle.answer.specs.declared.Answer.the-variants.{One, Infinite, Refused}
-use Rattle.root.specs.Root.{rootOf}
 use Rattle.whole.specs.Whole.{magnitudeOf}
 use Rattle.angle.specs.Sine.{sineOf}
-use Rattle.legendre.specs.Ellipe.{ellipeOf}
+use Rattle.legendre.specs.Domain.{byDomain}
+use Rattle.legendre.specs.Ellipe.{ellipeWithin, ellipeOf}
 use Rattle.incomplete.specs.declared.Fold.{Fold}
 use Rattle.answer.specs.Settle.{handedOf}
 use Rattle.incomplete.specs.Period.{far-out, foldedOf}
-use Rattle.ellipeinc.specs.Ellipeinc.{signOf, itselfOf, farOf, steepOf, lineOf, ownOf, withPeriodsOf, byRecipeOf, reducedOf, onSizeOf, ellipeincOf}
+use Rattle.ellipeinc.specs.Ellipeinc.{signOf, itselfOf, farOf, lineOf, ownOf, withPeriodsOf, byRecipeOf, reducedOf, onSizeOf, ellipeincOf}
 use Rattle.whole.specs.laws.Magnitude.{magnitude-nan, magnitude-neg}
-use Rattle.laws.specs.laws.Signs.{mul-neg, div-neg}
+use Rattle.laws.specs.laws.Signs.{mul-neg}
 use Rattle.laws.specs.laws.Kinds.{differs-is}
 use Rattle.answer.specs.laws.Odd.{turnOf, same-kind, one-turned, rung, handed-odd}
 
@@ -92,17 +93,7 @@ itself-odd φ = rung _ (φ ≠· φ) _ _ _ _ (same-kind φ) refl (handed-odd _ �
 
 far-odd : (sign size m : Float) → farOf (neg sign) size m ≡ turnOf (farOf sign size m)
 unfolding farOf turnOf
-far-odd sign size m = rung (1·0 <· m) (1·0 <· m) _ _ _ _ refl refl (handed-odd _ _ through)
-  where
-    e : Float
-    e = valueOf (ellipeOf m)
-
-    through : neg sign ⊗ 2·0 ⊗ size ⊗ e ⊘ π ≡ neg (sign ⊗ 2·0 ⊗ size ⊗ e ⊘ π)
-    through = ap (λ (x : Float). x ⊗ size ⊗ e ⊘ π) (mul-neg binary64 sign 2·0) ∙ ap (λ (x : Float). x ⊗ e ⊘ π) (mul-neg binary64 (sign ⊗ 2·0) size) ∙ ap (λ (x : Float). x ⊘ π) (mul-neg binary64 (sign ⊗ 2·0 ⊗ size) e) ∙ div-neg binary64 (sign ⊗ 2·0 ⊗ size ⊗ e) π
-
-steep-odd : (sign size m : Float) → steepOf (neg sign) size m ≡ turnOf (steepOf sign size m)
-unfolding steepOf
-steep-odd sign size m = handed-odd _ _ (ap (λ (x : Float). x ⊗ rootOf (neg m)) (mul-neg binary64 sign _) ∙ mul-neg binary64 _ (rootOf (neg m)))
+far-odd sign size m = rung (1·0 <· m) (1·0 <· m) _ _ _ _ refl refl (handed-odd _ _ (mul-neg binary64 sign _))
 
 line-odd : (sign size : Float) → lineOf (neg sign) size ≡ turnOf (lineOf sign size)
 unfolding lineOf
@@ -131,8 +122,7 @@ size-odd : (sign size m : Float) → onSizeOf (neg sign) size m ≡ turnOf (onSi
 unfolding onSizeOf
 size-odd sign size m =
     rung (far-out <· size) (far-out <· size) _ _ _ _ refl (far-odd sign size m)
-    (rung (m ≤· neg most) (m ≤· neg most) _ _ _ _ refl (steep-odd sign size m)
-    (rung (m =· 1·0) (m =· 1·0) _ _ _ _ refl (line-odd sign size) (reduced-odd sign size m)))
+    (rung (m =· 1·0) (m =· 1·0) _ _ _ _ refl (line-odd sign size) (reduced-odd sign size m))
 
 -- ---- oddness
 odd-of : (φ m : Float) → (φ =· +0) ≡ false → Mirrored φ → ellipeincOf (neg φ) m ≡ turnOf (ellipeincOf φ m)
@@ -140,16 +130,17 @@ unfolding ellipeincOf turnOf
 odd-of φ m h k =
     sym (passed _ _ (k .still) refl)
     ∙ rung (m =· +0) (m =· +0) _ _ _ _ refl (itself-odd φ)
-    (rung _ (most ≤· magnitudeOf φ) _ _ _ _ (ap (λ (a : Float). most ≤· a) (magnitude-neg φ)) (ap Infinite (k .sides))
+    (rung _ (magnitudeOf φ =· +∞) _ _ _ _ (ap (λ (a : Float). a =· +∞) (magnitude-neg φ)) (ap Infinite (k .sides))
     (rung _ (φ ≠· φ && 1·0 <· m) _ _ _ _ (ap (λ (b : Bool). b && 1·0 <· m) (same-kind φ)) refl
     (rung _ (φ ≠· φ || m ≠· m) _ _ _ _ (ap (λ (b : Bool). b || m ≠· m) (same-kind φ)) refl
-    (ap₂ (λ (s a : Float). onSizeOf s a m) (other-sign φ (k .sides)) (magnitude-neg φ) ∙ size-odd (signOf φ) (magnitudeOf φ) m))))
+    (rung (m =· -∞) (m =· -∞) _ _ _ _ refl (ap Infinite (k .sides))
+    (ap₂ (λ (s a : Float). onSizeOf s a m) (other-sign φ (k .sides)) (magnitude-neg φ) ∙ size-odd (signOf φ) (magnitudeOf φ) m)))))
     ∙ ap turnOf (passed _ _ h refl)
 
 -- NaN is refused, whatever m is
 nan-refused : (m : Float) → ellipeincOf nan m ≡ cond (m =· +0) (Refused 1) (cond (1·0 <· m) (Refused 2) (Refused 1))
 unfolding ellipeincOf itselfOf ne eq le lt ofBits
-nan-refused m = ap (λ (a : Float). cond (m =· +0) (Refused 1) (cond (most ≤· a) (Infinite false) (cond (1·0 <· m) (Refused 2) (Refused 1)))) magnitude-nan
+nan-refused m = ap (λ (a : Float). cond (m =· +0) (Refused 1) (cond (a =· +∞) (Infinite false) (cond (1·0 <· m) (Refused 2) (Refused 1)))) magnitude-nan
 
 odd-nan : (m : Float) → ellipeincOf (neg nan) m ≡ turnOf (ellipeincOf nan m)
 unfolding neg turnOf
@@ -164,3 +155,30 @@ pub odd : (φ m : Float) → (φ =· +0) ≡ false → ellipeincOf (neg φ) m �
 odd nan m h = odd-nan m
 odd (inf s) m h = odd-of (inf s) m h (mirrored-inf s)
 odd (fin s k e) m h = odd-of (fin s k e) m h (mirrored-fin s k e h)
+
+-- ---- the rule for m = -∞ may stand before step 5 or after it: E(-∞) is +∞, and so is what step 5 makes of it
+infinite-e : valueOf (ellipeOf -∞) ≡ inf false
+unfolding valueOf ellipeOf ellipeWithin byDomain ne eq lt ofBits
+infinite-e = refl
+
+-- a size above 2^52 times +∞, with the sign of φ
+far-product : (size : Float) → (far-out <· size) ≡ true → (s : Bool) → handedOf (cond s (neg 1·0) 1·0 ⊗ (size ⊗ (2·0 ⊗ inf false ⊘ π))) ≡ Infinite s
+unfolding handedOf mul div lt neg ofBits
+far-product nan h s = absurd (true≢false (sym h))
+far-product (inf true) h s = absurd (true≢false (sym h))
+far-product (inf false) h true = refl
+far-product (inf false) h false = refl
+far-product (fin true m e) h s = absurd (true≢false (sym h))
+far-product (fin false zero e) h s = absurd (no-room e h)
+  where
+    no-room : (e : ℤ) → ltb (1 * 4503599627370496 * down e) (0 * up e * 1) ≡ true → ⊥
+    no-room e h = true≢false (sym h ∙ is-false (ltb (1 * 4503599627370496 * down e) (0 * up e * 1)) (le→nltb (1 * 4503599627370496 * down e) (0 * up e * 1) (omega arith)))
+far-product (fin false (suc m) e) h s = ap (λ (b : Bool). handedOf (cond s (neg 1·0) 1·0 ⊗ cond b nan (inf false))) (ne-eqb (suc m) 0 (λ z. omega arith)) ∙ go s
+  where
+    go : (s : Bool) → handedOf (cond s (neg 1·0) 1·0 ⊗ inf false) ≡ Infinite s
+    go true = refl
+    go false = refl
+
+pub far-at-minus-infinity : (φ : Float) → (far-out <· magnitudeOf φ) ≡ true → farOf (signOf φ) (magnitudeOf φ) -∞ ≡ Infinite (φ <· +0)
+unfolding farOf signOf lt ofBits
+far-at-minus-infinity φ h = ap (λ (e : Float). handedOf (cond (φ <· +0) (neg 1·0) 1·0 ⊗ (magnitudeOf φ ⊗ (2·0 ⊗ e ⊘ π)))) infinite-e ∙ far-product (magnitudeOf φ) h (φ <· +0)

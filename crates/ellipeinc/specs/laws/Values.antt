@@ -3,16 +3,16 @@ use Prim.Native.Nat.{_≤_}
 use mathlib.Core.List.{[], _∷_}
 use mathlib.Core.Bool.{Bool, true, not, _&&_, _||_}
 use lib.Dec.{T}
-use lib.Ieee.{Float, binary64, fits, ofBits, neg}
-use lib.Ieee.Fits.{mul-fits, div-fits}
-use Rattle.laws.specs.Arithmetic.{_⊗_, _<·_, _≤·_, _=·_, _≠·_, +0, most, 1·0}
+use lib.Ieee.{Float, binary64, fits, ofBits}
+use lib.Ieee.Fits.{mul-fits}
+use Rattle.laws.specs.Arithmetic.{_⊗_, _<·_, _≤·_, _=·_, _≠·_, +0, +∞, -∞, 1·0}
 use Rattle.whole.specs.Whole.{magnitudeOf}
 use Rattle.answer.specs.Answer.{valueOf}
 use Rattle.answer.specs.laws.Fair.{May, Fair, among, refused, answered, rung, handed-fair}
 use Rattle.angle.specs.Sine.{sineOf}
 use Rattle.incomplete.specs.declared.Fold.{Fold}
 use Rattle.incomplete.specs.Period.{far-out, foldedOf}
-use Rattle.ellipeinc.specs.Ellipeinc.{signOf, itselfOf, farOf, steepOf, lineOf, ownOf, withPeriodsOf, byRecipeOf, reducedOf, onSizeOf, ellipeincOf}
+use Rattle.ellipeinc.specs.Ellipeinc.{signOf, itselfOf, farOf, lineOf, ownOf, withPeriodsOf, byRecipeOf, reducedOf, onSizeOf, ellipeincOf}
 
 abbrev pub ellipeinc-may : May
 ellipeinc-may = record { tests = 1 ∷ 2 ∷ 3 ∷ []; infinite = true }
@@ -37,17 +37,17 @@ reduced-fair sign size m =
     rung ellipeinc-may (ownOf (f .angle) m) _ _ (periods-fair sign m _ _ _) (recipe-fair sign m f)
 
 size-fair : (sign size m : Float) → Fair ellipeinc-may (onSizeOf sign size m)
-unfolding onSizeOf farOf steepOf lineOf among
+unfolding onSizeOf farOf lineOf among
 size-fair sign size m =
-    rung ellipeinc-may (far-out <· size) _ _ (rung ellipeinc-may (1·0 <· m) _ _ (refused ellipeinc-may 2 tt) (handed-fair ellipeinc-may _ tt (div-fits binary64 _ _)))
-    (rung ellipeinc-may (m ≤· neg most) _ _ (handed-fair ellipeinc-may _ tt (mul-fits binary64 _ _))
-    (rung ellipeinc-may (m =· 1·0) _ _ (handed-fair ellipeinc-may _ tt (mul-fits binary64 _ _)) (reduced-fair sign size m)))
+    rung ellipeinc-may (far-out <· size) _ _ (rung ellipeinc-may (1·0 <· m) _ _ (refused ellipeinc-may 2 tt) (handed-fair ellipeinc-may _ tt (mul-fits binary64 _ _)))
+    (rung ellipeinc-may (m =· 1·0) _ _ (handed-fair ellipeinc-may _ tt (mul-fits binary64 _ _)) (reduced-fair sign size m))
 
 pub ellipeinc-fair : (φ m : Float) → T (fits binary64 φ) → Fair ellipeinc-may (ellipeincOf φ m)
 unfolding ellipeincOf itselfOf ofBits fits Fair among
 ellipeinc-fair φ m F =
     rung ellipeinc-may (φ =· +0) _ _ (answered ellipeinc-may +0 tt)
     (rung ellipeinc-may (m =· +0) _ _ (rung ellipeinc-may (φ ≠· φ) _ _ (refused ellipeinc-may 1 tt) (handed-fair ellipeinc-may φ tt F))
-    (rung ellipeinc-may (most ≤· magnitudeOf φ) _ _ tt
+    (rung ellipeinc-may (magnitudeOf φ =· +∞) _ _ tt
     (rung ellipeinc-may (φ ≠· φ && 1·0 <· m) _ _ (refused ellipeinc-may 2 tt)
-    (rung ellipeinc-may (φ ≠· φ || m ≠· m) _ _ (refused ellipeinc-may 1 tt) (size-fair (signOf φ) (magnitudeOf φ) m)))))
+    (rung ellipeinc-may (φ ≠· φ || m ≠· m) _ _ (refused ellipeinc-may 1 tt)
+    (rung ellipeinc-may (m =· -∞) _ _ tt (size-fair (signOf φ) (magnitudeOf φ) m))))))

@@ -15,7 +15,7 @@ use Rattle.line.specs.declared.Number.the-variants.{Value, Not}
 use Rattle.line.specs.declared.Line.{Line}
 use Rattle.line.specs.declared.Line.the-variants.{Edit, Malformed}
 use Rattle.line.specs.Line.{decimalOf, lineOf}
-use Rattle.line.specs.Long.{below, long-count, long-line}
+use Rattle.line.specs.laws.Long.{below, long-count, long-line}
 use Rattle.ledger.specs.Sheet.{sizeFor, blankRow, encode}
 use Rattle.ledger.specs.Calls.{blankRefusal, blankOf}
 use Rattle.sheet.specs.Edit.{editRefusal, editOf}

@@ -9,7 +9,7 @@ use lib.Dec.{eqb}
 use borrow.Author.Tests.{eq-eqb, ne-eqb, eqb-true, eqb-false}
 use Rattle.laws.specs.Ladder.{held}
 use Rattle.line.specs.Line.{decimalOf, onto, cut}
-use Rattle.line.specs.Long.{below}
+use Rattle.line.specs.laws.Long.{below}
 use Rattle.page.specs.Page.{largest}
 use Rattle.engine.specs.Run.{joined, Outcome, Start, Sheet, Bad, zeros, countOn, lineOn, linesOn, linesOf, printed, runOf}
 use Rattle.engine.specs.Machine.{longest, Room, room, startOf, stepOf, feedOf, feedAll, finishOf, outputOf}

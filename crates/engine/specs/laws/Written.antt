@@ -11,7 +11,7 @@ use borrow.Author.Tests.{lt-ltb, le-ltb, eq-eqb, ne-eqb, lt-leb}
 use Rattle.line.specs.declared.Number.the-variants.{Value, Not}
 use Rattle.line.specs.declared.Line.the-variants.{Edit}
 use Rattle.line.specs.Line.{digitOf, spellOf, decimalOf, patternOf, onto, cut, fieldsOf, given, editFrom, lineOf}
-use Rattle.line.specs.Long.{below}
+use Rattle.line.specs.laws.Long.{below}
 use Rattle.page.specs.laws.Digits.{if-below, decimal-enough}
 use Rattle.page.specs.Text.{glyphOf, digitsOf, decimal, pattern, space}
 use Rattle.engine.specs.Input.{editText}

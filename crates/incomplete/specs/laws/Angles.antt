@@ -1,4 +1,4 @@
--- The remainder by π/2, and what is left of π/2, is at most 4 in size, so that the kernel answers for the sine and cosine of a reduced angle; so is |φ| < π/2. Assumes nothing.
+-- The remainder by π/2, and what is left of π/2, is at most 4 in size, so that there is an answer for the sine and cosine of a reduced angle; so is |φ| < π/2. Assumes nothing.
 use mathlib.Core.Path.{_≡_, refl, sym, ap, subst}
 use Prim.Native.Nat.{ℕ, suc, _+_, _*_, _%_, _^_, _≤_, _<_}
 use native.Mathlib.Nat.{mul-pos, mul-le-mul-right, mod-lt}
@@ -108,7 +108,7 @@ pub quarter-finite : (φ : Float) → (φ ≠· φ) ≡ false → (π/2 ≤· ma
 unfolding ofBits
 quarter-finite φ k h = within φ P (negsuc 48) (not-nan φ k) (not-below π/2 (magnitudeOf φ) h)
 
--- ---- as the kernel tests it, in whole numbers: |x| is a fraction of at most 4
+-- ---- as `angle` tests it, in whole numbers: |x| is a fraction of at most 4
 pub in-reach : (x : Float) → T (magnitudeOf x ≤· 4·0) → T (finite x)
 unfolding ofBits
 in-reach x h = at-most-finite x 1 (pos 2) h
@@ -120,7 +120,7 @@ in-reach-size s m e h = let l = at-most-size s m e 1 (pos 2) h in plain (m * up 
     plain : (a c : ℕ) → a * 1 ≤ 1 * 4 * c → a ≤ 4 * c
     plain a c h = omega arith
 
--- so the kernel answers: refusal 12 does not arise inside
+-- so there is an answer: refusal 12 does not arise inside
 pub asked : (x : Float) → T (magnitudeOf x ≤· 4·0) → (refusalOf (sineOf x) ≡ 0) × (refusalOf (cosineOf x) ≡ 0)
 unfolding refusalOf
 asked nan h = absurd (in-reach nan h)

@@ -1,7 +1,7 @@
 -- Five fields in turn; a longer line is malformed, and so is one with more fields.
 use mathlib.Core.Path.{sym}
 use borrow.Author.Needs.{needs}
-use Rattle.line.specs.Long.{long-line}
+use Rattle.line.specs.laws.Long.{long-line}
 use Rattle.line.proofs.Edits.{too-many, just-five}
 use Rattle.line.proofs.read_edit.Statement.{statement}
 use Rattle.line.proofs.read_edit.Tie as tie

@@ -14,7 +14,7 @@ use Rattle.io.specs.Counts.{clamped}
 use Rattle.page.specs.Page.{failedLine}
 use Rattle.engine.specs.Run.{joined, zeros, runOf}
 use Rattle.engine.specs.Machine.{Room, room, startOf, feedOf, feedAll, outputOf}
-use Rattle.engine.specs.Law.{program-law, stopped-law}
+use Rattle.engine.specs.laws.Law.{program-law, stopped-law}
 use Rattle.runner.specs.Reads.{Read, broughtOf, failedOf, goesOn, Next, Reads, last, go-on, spent, textOf, Ran}
 use Rattle.runner.specs.Program.{inputOf, lineEnds, writtenOf}
 use Rattle.runner.specs.laws.Lines.{counted}

@@ -79,7 +79,9 @@ enum {
 
 /* ---- The first offer: doubles. Each is an inline function over the library's own calls. */
 
-/* Works out the integral. Gives 0 and writes the answers; or gives its refusal, 1 to 6, and writes zeros. No answer is NaN; it can be infinite. */
+/* Works out the integral. Gives 0 and writes the answers; or gives its refusal, 1 to 6, and writes zeros. No answer is NaN; it can be
+   infinite: K at 1, E at -infinity, Pi at m = 1, E(phi, m) at an infinite phi and, but for phi = 0, at m = -infinity, F(phi, m) at an infinite phi; and E(phi, m) and
+   F(phi, m) where they are too large for a double. */
 static inline uint8_t sm_ellipk(double m, double *k);
 static inline uint8_t sm_ellipe(double m, double *e);
 static inline uint8_t sm_ellipke(double m, double *k, double *e);

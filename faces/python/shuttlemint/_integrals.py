@@ -230,7 +230,7 @@ def ellippi(n: Numbers, m: Numbers, *, refused: OnRefusal = "raise") -> Any:
 
 
 def ellipeinc(phi: Numbers, m: Numbers, *, refused: OnRefusal = "raise") -> Any:
-    """E(φ, m), the incomplete integral of the second kind. Refusals: 1, 2, 3 for m·sin²φ ≥ 1, 5 and 6.
+    """E(φ, m), the incomplete integral of the second kind. E(±inf, m) is infinite, and so is E(φ, -inf) but for φ = 0. Refusals: 1, 2, 3 for m·sin²φ ≥ 1, 5 and 6.
 
     >>> from math import pi
     >>> round(6356752.314245179 * ellipeinc(pi / 2, -0.006739496742276434), 3)      # metres from the equator to the pole, on WGS84

@@ -123,7 +123,7 @@ pub fn ellippi(n: impl Into<Characteristic>, m: impl Into<Parameter>) -> Result<
     Integral::ellippi(n, m).first()
 }
 
-/// E(φ, m), the incomplete integral of the second kind. Refusals: 1, 2, 3 for m·sin²φ ≥ 1, 5 and 6.
+/// E(φ, m), the incomplete integral of the second kind. E(±∞, m) is infinite with φ's sign, and so is E(φ, -∞) but for φ = 0. Refusals: 1, 2, 3 for m·sin²φ ≥ 1, 5 and 6.
 ///
 /// ```
 /// let arc = shuttlemint::integrals::ellipeinc(std::f64::consts::FRAC_PI_4, 0.5).unwrap();

@@ -60,7 +60,7 @@ pub fn ellippi<T: Float>(n: T, m: T) -> Result<T, StrErr> {
     integrals::ellippi(n.into(), m.into()).map(T::from).map_err(text!("ellippi"))
 }
 
-/// E(φ, m).
+/// E(φ, m). E(φ, -∞) is infinite, which ellip's own table of limits says and its code does not give; for |φ| > 2^52 the last bit may differ from ellip's.
 pub fn ellipeinc<T: Float>(phi: T, m: T) -> Result<T, StrErr> {
     integrals::ellipeinc(phi.into(), m.into()).map(T::from).map_err(|refusal| match refusal {
         // ellip hands on what its ellipe says.

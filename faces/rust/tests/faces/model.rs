@@ -61,9 +61,11 @@ pub fn named(function: u8, a: u64, b: u64) -> Option<Answers> {
                 one(phi)
             }
         }
-        (5, phi, _) if !is_nan(phi) && phi % SIGN >= LARGEST => one(if phi >= SIGN { MINUS } else { PLUS }),
+        (5, PLUS | MINUS, _) => one(a),
         (5, phi, m) if is_nan(phi) => refused(if above_one(m) { 2 } else { 1 }),
         (5, _, m) if is_nan(m) => refused(1),
+        (5, phi, MINUS) => one(if phi >= SIGN { MINUS } else { PLUS }),
+        (5, phi, m) if phi % SIGN > FAR && above_one(m) => refused(2),
         (6, phi, m) if is_nan(phi) || is_nan(m) => refused(1),
         (6, phi, m) if m % SIGN == 0 || (phi % SIGN == 0 && is_finite(m)) => one(phi),
         (6, phi, m) if key(m) >= key(ONE) => {

@@ -3,3 +3,4 @@ pub mod Unmet
 pub mod Corners
 pub mod Scaled
 pub mod Point
+pub mod Quarters

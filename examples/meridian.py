@@ -9,13 +9,14 @@ is the length of all legs together in units of b.
   meridian.py metres LEGS < output   legs and total in metres, from the program's output for these legs
   meridian.py check LEGS < output    the same, held to a second method: mpmath's quadrature of a(1-e²)/(1-e²·sin²φ)^(3/2) dφ
 
-LEGS is a file of legs: a line has two latitudes in degrees, north positive, and a name; lines that begin with # are passed over. So:
+LEGS is a file of legs: a line has two latitudes in degrees, north positive, how often the leg was driven if not once, as in x3, and a name; lines that begin with #
+are passed over. So:
 
   examples/meridian.py lines examples/legs.txt | examples/legsheet | examples/meridian.py metres examples/legs.txt
 
 The exit status is 0 only if all of it went well.
 """
-import math, struct, sys
+import math, re, struct, sys
 
 A, B = 6378137.0, 6356752.314245179  # WGS84's half axes in metres
 M = -0.006739496742276434            # -e'² = 1 - (a/b)²
@@ -34,7 +35,7 @@ def parametric(latitude):
     return math.atan(B / A * math.tan(math.radians(latitude)))
 
 def legs(name):
-    """The legs of a file: start, end and name of each."""
+    """The legs of a file: start, end, times and name of each."""
     found = []
     with open(name) as lines:
         for number, line in enumerate(lines, 1):
@@ -47,16 +48,20 @@ def legs(name):
                 sys.exit('%s, line %d: two latitudes in degrees and a name are wanted' % (name, number))
             if not (abs(start) <= 90 and abs(end) <= 90):
                 sys.exit('%s, line %d: a latitude lies between -90 and 90' % (name, number))
-            found.append((start, end, leg.strip()))
+            driven = re.match(r'x([0-9]+) +', leg)
+            times = int(driven[1]) if driven else 1
+            if times > 65535:
+                sys.exit('%s, line %d: a row keeps at most 65535 times' % (name, number))
+            found.append((start, end, times, leg[driven.end() if driven else 0:].strip()))
     if len(found) > MOST:
         sys.exit('%s has %d legs and a sheet holds %d; split the file' % (name, len(found), MOST))
     return found
 
 def write_lines(given):
     print(2 * len(given))
-    for k, (start, end, _) in enumerate(given):
-        print(2 * k, 5, pattern(parametric(end)), pattern(M), pattern(0.0))
-        print(2 * k + 1, 5, pattern(-parametric(start)), pattern(M), pattern(0.0))
+    for k, (start, end, times, _) in enumerate(given):
+        print(2 * k, 5, pattern(parametric(end)), pattern(M), pattern(0.0), times)
+        print(2 * k + 1, 5, pattern(-parametric(start)), pattern(M), pattern(0.0), times)
 
 def read_output(text, given):
     """Each leg's length and their total, in metres."""
@@ -88,13 +93,13 @@ def main():
         return write_lines(given)
     lengths, total = read_output(sys.stdin.read(), given)
     worst = 0
-    for (start, end, name), metres in zip(given, lengths):
-        print('%15.3f m  %s' % (metres, name))
+    for (start, end, times, name), metres in zip(given, lengths):
+        print('%15.3f m  %s%s' % (metres, name, '' if times == 1 else ', driven %d times' % times))
         if what == 'check':
             worst = max(worst, abs(metres - quadrature(start, end)))
     print('%15.3f m  in all' % total)
     if what == 'check':
-        whole = abs(total - sum(quadrature(start, end) for start, end, _ in given))
+        whole = abs(total - sum(times * quadrature(start, end) for start, end, times, _ in given))
         print('the second method differs by at most %.1e m a leg, and by %.1e m in all' % (worst, whole))
         sys.exit(worst > 1e-6 or whole > 1e-6)
 

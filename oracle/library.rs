@@ -15,7 +15,7 @@ mod raw {
         pub safe fn sm_cosine(x: u64) -> u64;
         pub safe fn sm_logarithm(x: u64) -> u64;
         pub fn sm_blank(sheet: *mut u8, len: usize, rows: u32) -> u8;
-        pub fn sm_edit(sheet: *mut u8, len: usize, row: u32, function: u8, a: u64, b: u64, c: u64) -> u8;
+        pub fn sm_edit(sheet: *mut u8, len: usize, row: u32, function: u8, a: u64, b: u64, c: u64, times: u16) -> u8;
         pub fn sm_evaluate(function: u8, a: u64, b: u64, c: u64, out: *mut u64, len: usize) -> u8;
     }
 }
@@ -72,7 +72,7 @@ pub fn blank(sheet: &mut [u8], rows: u32) -> u8 {
     unsafe { raw::sm_blank(sheet.as_mut_ptr(), sheet.len(), rows) }
 }
 
-pub fn edit(sheet: &mut [u8], row: u32, function: u8, arguments: [u64; 3]) -> u8 {
+pub fn edit(sheet: &mut [u8], row: u32, function: u8, arguments: [u64; 3], times: u16) -> u8 {
     let [a, b, c] = arguments;
-    unsafe { raw::sm_edit(sheet.as_mut_ptr(), sheet.len(), row, function, a, b, c) }
+    unsafe { raw::sm_edit(sheet.as_mut_ptr(), sheet.len(), row, function, a, b, c, times) }
 }

@@ -45,7 +45,7 @@ def make(path, kind, lines, rows=1024):
         out.write('%d\n' % rows)
         for _ in range(lines):
             f, a, b = kind(rng)
-            out.write('%d %d %016x %016x %016x\n' % (rng.randrange(rows), f, program_model.pattern(a), program_model.pattern(b), 0))
+            out.write('%d %d %016x %016x %016x 1\n' % (rng.randrange(rows), f, program_model.pattern(a), program_model.pattern(b), 0))
 
 
 def twins(folder):

@@ -15,6 +15,7 @@ ROOT = os.path.join(os.path.dirname(os.path.abspath(__file__)), '..')
 PART = 4096  # bytes that the program reads at a time
 MOST = 1024  # rows
 LAST = 6     # the last function's number
+OFTEN = 65535  # the most times
 
 # ---- floats
 
@@ -71,9 +72,10 @@ def third(n, m):
 def incomplete(phi, m):
     if phi == 0: return 0, 0.0, 0.0
     if m == 0: return refused(1) if is_nan(phi) else (0, phi, 0.0)
-    if abs(phi) >= LARGEST: return 0, INF if phi > 0 else -INF, 0.0
+    if abs(phi) == INF: return 0, phi, 0.0
     if is_nan(phi): return refused(2 if m > 1 else 1)
     if is_nan(m): return refused(1)
+    if m == -INF: return 0, INF if phi > 0 else -INF, 0.0
     if abs(phi) > 2.0 ** 52 and m > 1: return refused(2)
     raise ValueError('an elliptic integral would be needed')
 
@@ -92,7 +94,12 @@ def evaluate(f, a, b):
 # ---- the run
 
 NUMBER = re.compile(rb'(?:0|[1-9][0-9]*)', re.ASCII)
-EDIT = re.compile(rb'(0|[1-9][0-9]*) (0|[1-9][0-9]*) ([0-9a-f]{16}) ([0-9a-f]{16}) ([0-9a-f]{16})', re.ASCII)
+EDIT = re.compile(rb'(0|[1-9][0-9]*) (0|[1-9][0-9]*) ([0-9a-f]{16}) ([0-9a-f]{16}) ([0-9a-f]{16}) (0|[1-9][0-9]*)', re.ASCII)
+BLANK = 0, 0, 0.0, 0.0, 0
+
+def number(text):
+    """A decimal number; one of more than 20 digits is too large for any field, and Python reads no text of any length."""
+    return int(text) if len(text) <= 20 else 1 << 64
 
 def run(data):
     lines = data.split(b'\n')
@@ -101,26 +108,26 @@ def run(data):
     rows = None
     for k, line in enumerate(lines, 1):
         if rows is None:
-            if not NUMBER.fullmatch(line) or int(line) > MOST:
+            if not NUMBER.fullmatch(line) or number(line) > MOST:
                 return b'bad line %d\n' % k
-            rows = [(0, 0, 0.0, 0.0)] * int(line)
+            rows = [BLANK] * int(line)
             continue
         m = EDIT.fullmatch(line)
         if not m:
             return b'bad line %d\n' % k
-        row, f = int(m[1]), int(m[2])
-        if row >= len(rows) or f > LAST:
+        row, f, times = number(m[1]), number(m[2]), number(m[6])
+        if row >= len(rows) or f > LAST or times > OFTEN:
             return b'bad line %d\n' % k
-        rows[row] = (0, 0, 0.0, 0.0) if f == 0 else (f,) + evaluate(f, int(m[3], 16), int(m[4], 16))
+        rows[row] = BLANK if f == 0 else (f,) + evaluate(f, int(m[3], 16), int(m[4], 16)) + (times,)
     if rows is None:
         return b'bad line 1\n'
     counts, total, out = [0] * 5, 0, []
-    for i, (f, q, x, y) in enumerate(rows):
-        out.append(b'%d %d %d %016x %016x\n' % (i, f, q, pattern(x), pattern(y)))
+    for i, (f, q, x, y, times) in enumerate(rows):
+        out.append(b'%d %d %d %016x %016x %d\n' % (i, f, q, pattern(x), pattern(y), times))
         kind = 0 if f == 0 else 4 if q else 2 if x == INF else 3 if x == -INF else 1
         counts[kind] += 1
         if kind == 1:
-            total += units(x)
+            total += times * units(x)
     out.append(b'counts %d %d %d %d %d\n' % tuple(counts))
     out.append(b'total %016x\n' % rounded(total))
     return b''.join(out)
@@ -128,18 +135,18 @@ def run(data):
 # ---- the cases
 
 EXAMPLE = b'''4
-0 3 3ff0000000000000 0000000000000000 0000000000000000
-1 5 0000000000000000 7ff8000000000000 0000000000000000
-2 4 3ff0000000000000 3ff0000000000000 0000000000000000
-3 5 4000000000000000 0000000000000000 0000000000000000
+0 3 3ff0000000000000 0000000000000000 0000000000000000 1
+1 5 0000000000000000 7ff8000000000000 0000000000000000 1
+2 4 3ff0000000000000 3ff0000000000000 0000000000000000 1
+3 5 4000000000000000 0000000000000000 0000000000000000 1
 '''
 
-def edit(row, f, a=0, b=0, c=0):
-    return b'%d %d %016x %016x %016x\n' % (row, f, a, b, c)
+def edit(row, f, a=0, b=0, c=0, times=1):
+    return b'%d %d %016x %016x %016x %d\n' % (row, f, a, b, c, times)
 
-def leg(row, x):
+def leg(row, x, times=1):
     """x itself as a row's first answer: function 5 with m = 0."""
-    return edit(row, 5, pattern(x))
+    return edit(row, 5, pattern(x), times=times)
 
 GOOD = edit(0, 5, 0x4000000000000000)
 FIELDS = GOOD[:-1].split(b' ')
@@ -149,41 +156,41 @@ def with_field(i, text):
 
 def random_edit(rng, rows):
     """An edit that 01 answers by itself, of any class."""
-    row, kind = rng.randrange(rows), rng.randrange(12)
+    row, kind, times = rng.randrange(rows), rng.randrange(12), rng.choice([0, 1, 1, 2, rng.randrange(100), rng.randrange(OFTEN), OFTEN])
     if kind < 6:
         p = rng.getrandbits(64) if kind < 3 else rng.getrandbits(52) | rng.randrange(900, 1150) << 52 | rng.getrandbits(1) << 63
-        return edit(row, 5, p, rng.choice([0, 1 << 63]), rng.getrandbits(64))
+        return edit(row, 5, p, rng.choice([0, 1 << 63]), rng.getrandbits(64), times)
     special = [0x3ff0000000000000, 0xfff0000000000000, 0x7ff8000000000000, 0x7ff0000000000000, 0x4008000000000000, 0xfff8000000000001]
     if kind < 8:
-        return edit(row, rng.choice([1, 2, 3]), rng.choice(special), rng.getrandbits(64), rng.getrandbits(64))
+        return edit(row, rng.choice([1, 2, 3]), rng.choice(special), rng.getrandbits(64), rng.getrandbits(64), times)
     if kind < 10:
         n = rng.choice(special[:1] + special[2:3]) if rng.random() < .4 else rng.getrandbits(64)
-        return edit(row, 4, n, rng.choice(special), rng.getrandbits(64))
-    return edit(row, 0, rng.getrandbits(64), rng.getrandbits(64), rng.getrandbits(64))
+        return edit(row, 4, n, rng.choice(special), rng.getrandbits(64), times)
+    return edit(row, 0, rng.getrandbits(64), rng.getrandbits(64), rng.getrandbits(64), times)
 
 def many(seed, rows, lines):
     rng = random.Random(seed)
     return b'%d\n' % rows + b''.join(random_edit(rng, rows) for _ in range(lines))
 
 def split_everywhere():
-    """The ends of the parts that are read fall on every place of a line of 58 bytes, its line end among them."""
+    """The ends of the parts that are read fall on every place of a line of 60 bytes, its line end among them."""
     rng = random.Random(4096)
     text = b'1024\n'
-    for place in range(58):
+    for place in range(60):
         edge = (len(text) // PART + 2) * PART
-        text += filled(rng, edge - place - len(text)) + filled(rng, 58)
+        text += filled(rng, edge - place - len(text)) + filled(rng, 60)
     places = {k - (text.rfind(b'\n', 0, k) + 1) for k in range(PART, len(text), PART)}
-    assert places >= set(range(58))
+    assert places >= set(range(60))
     return text
 
 def filled(rng, size):
-    """So many bytes of lines that are 55 to 58 bytes long, by the digits of the row."""
-    lines = -(-size // 58)
-    assert 55 * lines <= size
+    """So many bytes of lines that are 57 to 60 bytes long, by the digits of the row."""
+    lines = -(-size // 60)
+    assert 57 * lines <= size
     text = b''
     for i in range(lines):
-        digits = size // lines + (i < size % lines) - 54
-        text += leg(rng.randrange(10 ** (digits - 1) if digits > 1 else 0, min(10 ** digits, MOST)), rng.uniform(-1e6, 1e6))
+        digits = size // lines + (i < size % lines) - 56
+        text += leg(rng.randrange(10 ** (digits - 1) if digits > 1 else 0, min(10 ** digits, MOST)), rng.uniform(-1e6, 1e6), rng.randrange(10))
     return text
 
 def cases():
@@ -204,6 +211,14 @@ def cases():
     yield 'total_any_order', b'4\n' + leg(3, 1e300) + leg(1, 1.0) + leg(2, -1e300) + leg(0, 2.0 ** -1074)
     yield 'refusals', b'6\n' + edit(0, 1, NAN) + edit(1, 2, pattern(2.0)) + edit(2, 4, pattern(1.0)) + edit(3, 5, NAN, pattern(2.0)) + edit(4, 5, pattern(1.0), NAN)
     yield 'first_kind', b'7\n' + edit(0, 6, pattern(1.5), 0, 7) + edit(1, 6, NAN) + edit(2, 6, pattern(2.0), pattern(1.0)) + edit(3, 6, pattern(-INF), pattern(0.5)) + edit(4, 6, pattern(1.0), pattern(-INF)) + edit(5, 6, pattern(-0.0), pattern(0.5)) + edit(6, 6, pattern(2.0 ** 53), pattern(-INF))
+    yield 'times_0', b'2\n' + leg(0, 1.5, 0) + leg(1, 2.5)
+    yield 'times_3', b'3\n' + leg(0, 2.0, 3) + leg(1, -0.5, 3) + leg(2, 2.5)
+    yield 'times_65535', b'3\n' + leg(0, 1.0, OFTEN) + leg(1, LARGEST, OFTEN) + leg(2, -LARGEST, OFTEN)
+    yield 'times_overflow', b'2\n' + leg(0, 2.0 ** 1008, OFTEN) + leg(1, 2.0 ** 1009, OFTEN)
+    yield 'times_replaced', b'2\n' + leg(0, 1.5, 7) + leg(0, 2.5, 4) + leg(1, 3.0, 5) + leg(1, 3.0, 2)
+    yield 'times_of_a_blank_row', b'3\n' + edit(0, 0, 1, 2, 3, 9) + leg(1, 1.5, 8) + edit(1, 0, times=OFTEN)
+    yield 'times_of_other_classes', b'4\n' + leg(0, INF, 2) + leg(1, -INF, OFTEN) + edit(2, 5, NAN, times=3) + leg(3, -0.0, 4)
+    yield 'times_at_every_shift', b'64\n' + b''.join(leg(i, math.ldexp(2.0 ** 53 - 1, i - 60), OFTEN) for i in range(64))
     yield 'long_input', many(2, 1024, 9000)
     yield 'split_everywhere', split_everywhere()
     # line 1
@@ -222,11 +237,14 @@ def cases():
                        ('hex_prefix', with_field(2, b'0x40000000000000')), ('minus_row', with_field(0, b'-0')), ('plus_row', with_field(0, b'+0')),
                        ('zero_before_row', with_field(0, b'00')), ('zero_before_function', with_field(1, b'05')), ('hex_row', with_field(0, b'a')), ('hex_function', with_field(1, b'a')),
                        ('no_row', with_field(0, b'')), ('no_function', with_field(1, b'')), ('no_argument', with_field(3, b'')), ('one_field', b'0\n'), ('four_fields', b' '.join(FIELDS[:4]) + b'\n'),
-                       ('six_fields', GOOD[:-1] + b' 0\n'), ('nul', with_field(0, b'\0')), ('nul_at_end', GOOD[:-1] + b'\0\n'), ('not_ascii', with_field(0, b'\xc3\xa9')),
+                       ('five_fields', b' '.join(FIELDS[:5]) + b'\n'), ('clear_five_fields', b' '.join(with_field(1, b'0').split(b' ')[:5]) + b'\n'), ('seven_fields', GOOD[:-1] + b' 0\n'), ('nul', with_field(0, b'\0')), ('nul_at_end', GOOD[:-1] + b'\0\n'), ('not_ascii', with_field(0, b'\xc3\xa9')),
                        ('row_8', with_field(0, b'1')), ('row_wraps_32', with_field(0, b'4294967296')), ('row_wraps_64', with_field(0, b'18446744073709551616')),
                        ('row_ten_digits', with_field(0, b'4294967295')), ('row_eleven_digits', with_field(0, b'10000000000')),
                        ('function_past_the_last', with_field(1, b'%d' % (LAST + 1))), ('function_255', with_field(1, b'255')), ('function_256', with_field(1, b'256')), ('function_261', with_field(1, b'261')),
-                       ('function_wraps_32', with_field(1, b'4294967301')), ('spaces', b'     \n'), ('73_bytes', GOOD[:-1] + b' ' * 19 + b'\n'), ('long', GOOD[:-1] + b'0' * 10000 + b'\n'),
+                       ('function_wraps_32', with_field(1, b'4294967301')), ('times_65536', with_field(5, b'65536')), ('times_65537', with_field(5, b'65537')), ('times_007', with_field(5, b'007')),
+                       ('times_two_zeros', with_field(5, b'00')), ('no_times', with_field(5, b'')), ('times_hex', with_field(5, b'a')), ('times_minus', with_field(5, b'-1')), ('times_plus', with_field(5, b'+1')),
+                       ('times_point', with_field(5, b'1.0')), ('times_wraps_32', with_field(5, b'4294967297')), ('times_wraps_64', with_field(5, b'18446744073709551617')),
+                       ('times_eleven_digits', with_field(5, b'10000000001')), ('clear_times_65536', b' '.join([b'0', b'0'] + FIELDS[2:5] + [b'65536']) + b'\n'), ('spaces', b'     \n'), ('83_bytes', b' '.join([b'4294967295'] * 2 + FIELDS[2:5] + [b'4294967295']) + b'\n'), ('84_bytes', GOOD[:-1] + b' ' * 28 + b'\n'), ('long', GOOD[:-1] + b'0' * 10000 + b'\n'),
                        ('long_spaces', b' ' * 5000 + b'\n'), ('sentence', b'bad line 7\n')]:
         yield 'line_' + name, one + line + GOOD
     yield 'line_after_the_last', one + GOOD + b'\n'

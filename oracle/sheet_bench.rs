@@ -12,8 +12,8 @@ use timing::Contest;
 
 const WGS84: f64 = -0.006739496742276434;
 
-/// A row, modulo the sheet's rows, and an angle.
-type Edit = (u32, f64);
+/// A row, modulo the sheet's rows, an angle, and how often the leg was driven.
+type Edit = (u32, f64, u16);
 
 /// A blank sheet by the library and one by its twin.
 struct Sheets {
@@ -31,12 +31,12 @@ impl Sheets {
         sheets
     }
 
-    fn by_library(&self, (row, angle): Edit, m: f64) -> u8 {
-        library::edit(&mut self.ours.borrow_mut(), row % self.rows, 5, [angle.to_bits(), m.to_bits(), 0])
+    fn by_library(&self, (row, angle, times): Edit, m: f64) -> u8 {
+        library::edit(&mut self.ours.borrow_mut(), row % self.rows, 5, [angle.to_bits(), m.to_bits(), 0], times)
     }
 
-    fn by_twin(&self, (row, angle): Edit, m: f64) -> u8 {
-        let entry = twin::sheet::Entry { function: 5, a: angle.to_bits(), b: m.to_bits(), c: 0 };
+    fn by_twin(&self, (row, angle, times): Edit, m: f64) -> u8 {
+        let entry = twin::sheet::Entry { function: 5, a: angle.to_bits(), b: m.to_bits(), c: 0, times };
         twin::sheet::edit(&mut self.theirs.borrow_mut(), row % self.rows, entry)
     }
 }
@@ -56,13 +56,18 @@ fn contest(title: &str, edits: &[Edit], m: f64) {
     for (s, name) in sheets.iter().zip(["the same code in Rust, 1 row", "the same code in Rust, 32 rows", "the same code in Rust, 1,024 rows"]) {
         c.enter(name, 200, move |e| s.by_twin(e, m));
     }
-    c.enter("the evaluation alone, proved library", 200, move |(_, angle): Edit| library::evaluate(5, angle.to_bits(), m.to_bits(), 0));
+    c.enter("the evaluation alone, proved library", 200, move |(_, angle, _): Edit| library::evaluate(5, angle.to_bits(), m.to_bits(), 0));
     c.show(title);
 }
 
 fn main() {
     let mut random = Random(5);
-    let edits: Vec<Edit> = (0..10_000).map(|_| (random.below(1 << 20) as u32, random.below(1 << 53) as f64 / (1u64 << 53) as f64 * 1.5)).collect();
-    contest("edit, the sheet's own part", &edits, 0.0);
-    contest("edit, a leg", &edits, WGS84);
+    let mut edits = |most: u64| -> Vec<Edit> {
+        let mut any = || (random.below(1 << 20) as u32, random.below(1 << 53) as f64 / (1u64 << 53) as f64 * 1.5, 1 + random.below(most) as u16);
+        (0..10_000).map(|_| any()).collect()
+    };
+    let (once, often) = (edits(1), edits(65_535));
+    contest("edit, the sheet's own part, each leg driven once", &once, 0.0);
+    contest("edit, the sheet's own part, up to 65,535 times", &often, 0.0);
+    contest("edit, a leg", &often, WGS84);
 }

@@ -5,10 +5,11 @@ The script goes to standard output, one call a line, fields one space apart, num
 
   L length fill                      the buffer is now so many bytes, all equal to fill (8 and 2 digits)
   M rows answer                      make_blank (8, 2)
-  E row function a b c answer        edit (8, 2, 16, 16, 16, 2)
+  E row function a b c times answer  edit (8, 2, 16, 16, 16, 4, 2)
   C row answer                       clear (8, 2)
   P place byte                       the byte at this place is set: damage, or its repair (8, 2)
   R row answer bytes                 row_refusal, and read_row's bytes in hex, or - for an empty part (8, 2, 96 or 1)
+  K row times                        row_times (8, 4)
   T answer pattern                   total_refusal, and total as a bit pattern (2, 16)
   N class count                      count (2, 8)
   S sum                              the whole buffer as one number, first byte highest, modulo 2^55 - 55 (16)
@@ -22,6 +23,8 @@ NAN, PLUS, MINUS = 0x7ff8000000000000, 0x7ff0000000000000, 0xfff0000000000000
 ONE, TOP, SIGN = 0x3ff0000000000000, 0x7fefffffffffffff, 1 << 63
 HALF_PI, FAR = 0x3ff921fb54442d18, 0x4330000000000000       # π/2 and 2^52
 MODULUS = 1 << 2176
+OLD, NEW = 1, 3                                             # the first word: without times, which is only read; with times
+MOST_TIMES = 65535
 
 
 # ---- bit patterns
@@ -95,7 +98,25 @@ def evaluate(f, a, b):
 # ---- the sheet
 
 def u32(*xs): return struct.pack('<%dI' % len(xs), *xs)
-def contents(r): return u32(1, 32, 48 * r, r, 2, 32 + 48 * r, 296, 1)
+def contents(r, says=NEW): return u32(says, 32, 48 * r, r, 2, 32 + 48 * r, 296, 1)
+def times_in(row): return row[2] + 256 * row[3]
+
+
+def share(row):
+    """A row's class (0 blank, 1 finite, 2 +∞, 3 -∞, 4 refused, None) and what it brings to the total: its times multiplied by its first answer."""
+    first, = struct.unpack_from('<Q', row, 32)
+    if row[0] == 0: return 0, 0
+    if row[1] != 0: return 4, 0
+    if is_nan(first): return None, 0
+    if is_infinite(first): return 2 + (first >= SIGN), 0
+    return 1, times_in(row) * units(first)
+
+
+def worked_out(rows):
+    """The sheet of these rows, counted and added up afresh."""
+    shares = [share(row) for row in rows]
+    counts = [sum(k == c for k, _ in shares) for c in range(5)]
+    return contents(len(rows)) + b''.join(rows) + u32(*counts, 0) + (sum(x for _, x in shares) % MODULUS).to_bytes(272, 'little')
 
 
 class Sheet:
@@ -104,8 +125,10 @@ class Sheet:
     def rows(self):
         """How many rows, or None where the bytes are no sheet."""
         r, rest = divmod(len(self.b) - 328, 48)
-        if rest or not 0 <= r <= MOST_ROWS or self.b[:32] != contents(r): return None
+        if rest or not 0 <= r <= MOST_ROWS or self.b[:32] not in (contents(r, OLD), contents(r, NEW)): return None
         return r
+
+    def may_be_edited(self): return self.rows() is not None and self.b[0] == NEW
 
     def make(self, r):
         if r > MOST_ROWS: return 11
@@ -117,29 +140,19 @@ class Sheet:
     def counts(self, r): return list(struct.unpack_from('<5I', self.b, 32 + 48 * r))
     def number(self, r): return int.from_bytes(self.b[56 + 48 * r:328 + 48 * r], 'little')
 
-    @staticmethod
-    def share(row):
-        """A row's class (0 blank, 1 finite, 2 +∞, 3 -∞, 4 refused, None) and what it brings to the total."""
-        first, = struct.unpack_from('<Q', row, 32)
-        if row[0] == 0: return 0, 0
-        if row[1] != 0: return 4, 0
-        if is_nan(first): return None, 0
-        if is_infinite(first): return 2 + (first >= SIGN), 0
-        return 1, units(first)
-
-    def edit(self, i, f, a, b, c):
+    def edit(self, i, f, a, b, c, times):
+        if not self.may_be_edited(): return 7
         r = self.rows()
-        if r is None: return 7
         if i >= r: return 8
         if f > LAST: return 9
         row, counts = self.row(i), self.counts(r)
         first, = struct.unpack_from('<Q', row, 32)
-        old, value = self.share(row)
+        old, value = share(row)
         if row[0] > LAST or row[1] > 6 or is_nan(first) or sum(counts) != r or counts[old] == 0: return 10
         args = [x if k < USED[f] else 0 for k, x in enumerate((a, b, c))]
         q, x, y = evaluate(f, args[0], args[1])
-        new_row = bytes([f, q]) + bytes(6) + struct.pack('<5Q', *args, x, y)
-        new, added = self.share(new_row)
+        new_row = struct.pack('<BBHI5Q', f, q, times if f else 0, 0, *args, x, y)
+        new, added = share(new_row)
         counts[old] -= 1
         counts[new] += 1
         total = (self.number(r) - value + added) % MODULUS
@@ -152,6 +165,12 @@ class Sheet:
         if r is None: return 7, b''
         if i >= r: return 8, b''
         return 0, bytes(self.row(i))
+
+    def times(self, i):
+        """How often the row was driven; in a sheet without times once, and a blank row never."""
+        q, row = self.read(i)
+        if q: return 0
+        return times_in(row) if self.b[0] == NEW else int(row[0] != 0)
 
     def total(self):
         r = self.rows()
@@ -181,12 +200,12 @@ def new(length, fill=0):
 def make(r): out.append('M %08x %02x' % (r, sheet.make(r)))
 
 
-def edit(i, f, a=0, b=0, c=0):
+def edit(i, f, a=0, b=0, c=0, times=1):
     if f <= LAST and evaluate(f, a, b) is None: raise ValueError('no rule names this answer: %d %x %x' % (f, a, b))
-    out.append('E %08x %02x %016x %016x %016x %02x' % (i, f, a, b, c, sheet.edit(i, f, a, b, c)))
+    out.append('E %08x %02x %016x %016x %016x %04x %02x' % (i, f, a, b, c, times, sheet.edit(i, f, a, b, c, times)))
 
 
-def clear(i): out.append('C %08x %02x' % (i, sheet.edit(i, 0, 0, 0, 0)))
+def clear(i): out.append('C %08x %02x' % (i, sheet.edit(i, 0, 0, 0, 0, 0)))
 
 
 def poke(p, x):
@@ -197,11 +216,24 @@ def poke(p, x):
 def read(i):
     q, w = sheet.read(i)
     out.append('R %08x %02x %s' % (i, q, w.hex() or '-'))
+    out.append('K %08x %04x' % (i, sheet.times(i)))
 
 
 def total(): out.append('T %02x %016x' % sheet.total())
 def count(k): out.append('N %02x %08x' % (k, sheet.count(k)))
 def check(): out.append('S %016x' % sheet.sum())
+
+
+def afresh():
+    """A sheet that was only edited is that of its rows worked out afresh: the model's own check."""
+    assert sheet.b == worked_out([sheet.row(i) for i in range(sheet.rows())])
+
+
+def make_old():
+    """The sheet as it was before rows kept times: made with times 1, it says 1 and has zeros in place of the times."""
+    poke(0, OLD)
+    for i in range(sheet.rows()):
+        if sheet.b[34 + 48 * i]: poke(34 + 48 * i, 0)
 
 
 def all_reads(rows):
@@ -220,6 +252,9 @@ def value(rng):
     return (rng.randrange(1000, 1050) << 52) + (rng.randrange(16) << 48) + SIGN * rng.randrange(2)
 
 
+def often(rng): return rng.choice([0, 1, 1, 2, 3, 255, 256, 257, 0x8000, MOST_TIMES - 1, MOST_TIMES, rng.randrange(1 << 16)])
+
+
 CORNERS = [(1, ONE, 0), (1, MINUS, 0), (1, NAN, 0), (1, ONE + 1, 0), (2, ONE, 0), (2, MINUS, 0), (2, NAN, 0), (2, PLUS, 0), (3, ONE, 0), (3, MINUS, 0), (3, NAN, 0), (3, ONE + 1, 0),
            (4, ONE, ONE), (4, 0x4000000000000000, ONE), (4, 0x3fe0000000000000, ONE), (4, NAN, 0), (4, 0, NAN), (4, ONE, 0x3ff8000000000000), (4, MINUS, 0), (4, 0, MINUS), (4, MINUS, ONE), (4, PLUS, ONE),
            (5, 0, NAN), (5, SIGN, PLUS), (5, TOP, NAN), (5, SIGN + TOP, ONE), (5, MINUS, MINUS), (5, NAN, PLUS), (5, NAN, NAN), (5, NAN, 0), (5, ONE, NAN), (5, MINUS, 0), (5, TOP, SIGN),
@@ -232,9 +267,9 @@ def any_edit(rng, rows):
     i = rng.choice([rng.randrange(rows) if rows else 0] * 9 + [rows])
     pick = rng.randrange(12)
     if pick == 0: clear(i)
-    elif pick == 1: edit(i, rng.choice([0, 7, 8, 255]), value(rng), value(rng), value(rng))
-    elif pick < 5: f, a, b = rng.choice(CORNERS); edit(i, f, a, b, value(rng))
-    else: edit(i, rng.choice([5, 6]), value(rng), rng.choice([0, SIGN]), value(rng))
+    elif pick == 1: edit(i, rng.choice([0, 7, 8, 255]), value(rng), value(rng), value(rng), often(rng))
+    elif pick < 5: f, a, b = rng.choice(CORNERS); edit(i, f, a, b, value(rng), often(rng))
+    else: edit(i, rng.choice([5, 6]), value(rng), rng.choice([0, SIGN]), value(rng), often(rng))
 
 
 def example():
@@ -243,7 +278,7 @@ def example():
     edit(0, 3, ONE); edit(1, 5, 0, NAN); edit(2, 4, ONE, ONE); edit(3, 5, 0x4000000000000000, 0)
     all_reads(range(5))
     new(424); make(2)
-    edit(0, 5, 0xbff8000000000000, 0, 7); edit(1, 4, ONE, ONE)
+    edit(0, 5, 0xbff8000000000000, 0, 7, 1000); edit(1, 4, ONE, ONE, 0, 2)
     all_reads(range(2))
 
 
@@ -252,7 +287,7 @@ def sizes(rng):
         for length in (328 + 48 * r, 328 + 48 * r - 1, 328 + 48 * r + 1):
             if length > 328 + 48 * 1025 + 1: length = 328
             new(length, 0xa5); make(r); all_reads([0, 1])
-            edit(0, 5, ONE, 0); clear(0); check()
+            edit(0, 5, ONE, 0, 0, often(rng)); clear(0); check()
     for length in (0, 1, 31, 32, 327, 328 + 47, 328 + 49):
         new(length, 1); make(0); make(1); all_reads([0]); edit(0, 0); check()
 
@@ -260,9 +295,12 @@ def sizes(rng):
 def damage(rng):
     """Each byte of the contents and of the totals of a sheet of one row, one at a time; then the row's own."""
     for p in list(range(32)) + list(range(80, 376)) + list(range(32, 80)):
-        new(376); make(1); edit(0, 5, value(rng) % SIGN % PLUS or 1, 0)
+        new(376); make(1); edit(0, 5, value(rng) % SIGN % PLUS or 1, 0, 0, often(rng))
         poke(p, sheet.b[p] ^ rng.choice([1, 2, 0x80, 0xff]))
-        total(); read(0); edit(0, 5, value(rng), 0); total(); check()
+        total(); read(0); edit(0, 5, value(rng), 0, 0, often(rng)); total(); check()
+
+
+OF_EACH_CLASS = [(0, 0, 0), (5, ONE, 0), (1, ONE, 0), (4, 0x4000000000000000, ONE), (4, ONE, ONE)]
 
 
 def repaired(rng):
@@ -270,23 +308,22 @@ def repaired(rng):
     for old in range(5):
         for k in range(5):
             new(376 + 48); make(2)
-            f, a, b = [(0, 0, 0), (5, ONE, 0), (1, ONE, 0), (4, PLUS, ONE), (4, ONE, ONE)][old]
-            edit(0, f, a, b)
+            edit(0, *OF_EACH_CLASS[old], 0, often(rng))
             at = 128
             for place in range(5): poke(at + 4 * place, 2 * (place == k))
             edit(0, 5, 0x4000000000000000, 0); check(); all_reads([0])
 
 
 def orders(rng):
-    """Twice the same edits, the second time in another order, with rows edited in between: the bytes are the same."""
+    """Twice the same edits, the second time in another order, with rows edited in between, or the same leg with other times: the bytes are the same."""
     for r in (3, 40):
-        edits = [(i, value(rng)) for i in range(r)]
+        edits = [(i, value(rng), often(rng)) for i in range(r)]
         for turn in range(2):
             new(328 + 48 * r); make(r)
-            for i, x in edits:
-                if turn: edit(i, 5, value(rng), 0)
-                edit(i, 5, x, 0)
-            all_reads([0, r - 1]); rng.shuffle(edits)
+            for i, x, times in edits:
+                if turn: edit(i, 5, rng.choice([x, value(rng)]), 0, 0, often(rng))
+                edit(i, 5, x, 0, 0, times)
+            all_reads([0, r - 1]); afresh(); rng.shuffle(edits)
 
 
 def ties(rng):
@@ -298,11 +335,71 @@ def ties(rng):
         for i, x in enumerate(xs): edit(i, 5, x, 0); total()
         for i in range(len(xs)): clear(i); total()
         check()
-    new(328 + 48 * 1024); make(1024)
-    for i in range(1024):
-        edit(i, 5, SIGN + TOP, 0)
-        if i % 128 == 127: total()
-    all_reads([0, 1023, 1024])
+    # a leg driven so often is as good as so many legs: halves that only the times make
+    for legs in ([(TOP, 1), (half - (1 << 52), 2)], [(TOP, 1), (half - (2 << 52), 3), (half - (2 << 52), 1)], [(TOP, 65535), (SIGN + TOP, 65534), (half - (8 << 52), 256)], [(1, 65535), (SIGN + 1, 65534)],
+                 [(0x4340000000000000, 1), (ONE - (4 << 52), 15), (ONE - (4 << 52), 1), (1, 1)]):
+        new(328 + 48 * len(legs)); make(len(legs))
+        for i, (x, times) in enumerate(legs): edit(i, 5, x, 0, 0, times); total()
+        check(); afresh()
+    # as far out as a total goes, and back
+    for sign, r in ((SIGN, 1024), (0, 200)):
+        new(328 + 48 * r); make(r)
+        for i in range(r):
+            edit(i, 5, sign + TOP, 0, 0, MOST_TIMES)
+            if i % 128 == 127: total()
+        all_reads([0, r - 1, r]); afresh()
+        assert sheet.number(r) == (-r if sign else r) * MOST_TIMES * units(TOP) % MODULUS
+        for i in range(r): clear(i)
+        all_reads([0]); afresh()
+
+
+def times_driven(rng):
+    """Each class with each times; the same leg with other times; a blank row has times 0 whatever it was given, and keeps none."""
+    for f, a, b in OF_EACH_CLASS:
+        new(376); make(1)
+        for times in (MOST_TIMES, 0, 1, 255, 256, 0x0102):
+            edit(0, f, a, b, 0, times); all_reads([0, 1])
+        afresh(); edit(0, 0, a, b, 0, 7); read(0); total(); check(); afresh()
+    new(376); make(1); edit(0, 5, 0x4000000000000000, 0, 0, 3); edit(1, 5, ONE, 0, 0, 9); edit(0, 7, ONE, 0, 0, 9); all_reads([0])
+    # a blank row whose bytes hold times counts as blank, adds nothing, and is no damage; neither are bytes 4 to 7
+    for p in (34, 35, 36, 39):
+        new(376); make(1); poke(p, 5); all_reads([0]); edit(0, 5, ONE, 0, 0, 4); all_reads([0]); afresh()
+    new(376); make(1); edit(0, 5, ONE, 0, 0, 4); poke(34, 5); all_reads([0]); clear(0); all_reads([0])     # taken away as the bytes say
+
+
+def limbs(rng):
+    """Times of a float with all its digits, up to 69 of them, shifted to where they touch three limbs of 64, or just do not."""
+    for limb in (0, 1, 16, 31):
+        new(424); make(2)
+        for place in range(58, 67):
+            field = 64 * limb + place + 1
+            for digits in ((1 << 52) - 1, rng.randrange(1 << 52)):
+                x = (field << 52) + digits
+                if x > TOP: continue
+                edit(0, 5, x, 0, 0, MOST_TIMES); total(); edit(1, 5, SIGN + x, 0, 0, 0x8001); total()
+                edit(0, 5, x, 0, 0, 1); edit(1, 5, x, 0, 0, often(rng)); total(); check(); afresh()
+
+
+def old_sheets(rng):
+    """A sheet that says 1 is read and not edited; one that says anything else but 3 is none."""
+    for r in (0, 1, 5, 7, 1024):
+        new(328 + 48 * r); make(r)
+        for i in range(min(r, 7)): edit(i, *OF_EACH_CLASS[(i + 1) % 5])
+        make_old(); all_reads(range(min(r, 7) + 1))
+        for i in range(min(r, 7) + 1): edit(i, 5, ONE, 0, 0, often(rng)); clear(i)
+        edit(0, 255); edit(r, 0); check()
+        if r:
+            for p in (34, 35): poke(p, 0x55)                    # whatever stands there
+            read(0); total()
+        for says in (0, 2, 4, 0x81, 0xff): poke(0, says); all_reads([0, r]); edit(0, 5, ONE, 0); clear(0)
+        poke(0, OLD)
+        for p in range(1, 32): poke(p, sheet.b[p] ^ 1); read(0); edit(0, 0); total(); poke(p, sheet.b[p] ^ 1)
+        for p in range(1, 4): poke(p, OLD); total(); poke(p, 0)
+        total(); poke(0, NEW); all_reads([0]); edit(0, 5, 0x4000000000000000, 0, 0, 2); all_reads([0])
+        poke(0, OLD); make(r); all_reads([0]); edit(0, 5, ONE, 0); check()
+    # damage is read as it stands, and is no refusal of a sheet that is only read
+    new(376); make(1); edit(0, 5, ONE, 0); make_old()
+    for p, x in ((32, 7), (33, 200), (71, 0xff), (70, 0xff), (80, 9)): poke(p, x); all_reads([0]); edit(0, 5, ONE, 0)
 
 
 def wander(rng):
@@ -312,13 +409,17 @@ def wander(rng):
             any_edit(rng, r)
             if k % 10 == 9: total()
             if k % 50 == 49: all_reads([rng.randrange(r), r])
+        afresh()
+
+
+def script(rng):
+    """All parts; the lines are in `out`."""
+    example()
+    for part in (sizes, repaired, orders, ties, times_driven, limbs, old_sheets, wander, damage): part(rng)
 
 
 def main():
-    rng = random.Random(int(sys.argv[1]) if len(sys.argv) > 1 else 1)
-    for part in (example, sizes, repaired, orders, ties, wander, damage):
-        if part is example: part()
-        else: part(rng)
+    script(random.Random(int(sys.argv[1]) if len(sys.argv) > 1 else 1))
     print('\n'.join(out))
 
 

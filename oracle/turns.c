@@ -11,10 +11,16 @@ uint8_t evaluate_before(uint8_t function, uint64_t a, uint64_t b, uint64_t c, ui
 uint8_t evaluate_after(uint8_t function, uint64_t a, uint64_t b, uint64_t c, uint64_t *out, size_t length);
 uint64_t root_before(uint64_t x);
 uint64_t root_after(uint64_t x);
+uint8_t blank_before(uint8_t *sheet, size_t length, uint32_t rows);
+uint8_t blank_after(uint8_t *sheet, size_t length, uint32_t rows);
+/* A library from before rows kept times has no such argument: it lies on the stack, where nobody reads it. */
+uint8_t edit_before(uint8_t *sheet, size_t length, uint32_t row, uint8_t function, uint64_t a, uint64_t b, uint64_t c, uint16_t times);
+uint8_t edit_after(uint8_t *sheet, size_t length, uint32_t row, uint8_t function, uint64_t a, uint64_t b, uint64_t c, uint16_t times);
 
-enum { LIST = 256 };
+enum { LIST = 256, MOST_ROWS = 1024 };
 typedef uint8_t evaluation(uint8_t, uint64_t, uint64_t, uint64_t, uint64_t *, size_t);
 typedef uint64_t pattern_call(uint64_t);
+typedef uint8_t editing(uint8_t *, size_t, uint32_t, uint8_t, uint64_t, uint64_t, uint64_t, uint16_t);
 
 static uint64_t first[LIST], second[LIST];
 
@@ -62,6 +68,35 @@ static void contest(const char *what, int function, int passes)
     printf("%-52s %8.1f %8.1f %6.2f\n", what, before, after, after / before);
 }
 
+/* One pass of edits of ellipeinc, its angle from the first list. At m = 0 that is its answer, and what takes time is the sheet's own part. */
+static double edit_pass(uint8_t *sheet, uint32_t rows, uint16_t times, double m, editing *edit)
+{
+    const uint64_t parameter = pattern(m);
+    unsigned refused = 0;
+    const double began = now();
+    for (uint32_t k = 0; k < LIST; k++)
+        refused += edit(sheet, 328 + 48 * rows, k * 61 % rows, 5, first[k], parameter, 0, times) != 0;
+    const double took = now() - began;
+    if (refused != 0) {
+        printf("turns: %u edits are refused\n", refused);
+        exit(1);
+    }
+    return took / LIST;
+}
+
+static void contest_of_edits(const char *what, uint32_t rows, uint16_t times, double m, int passes)
+{
+    static uint8_t sheets[2][328 + 48 * MOST_ROWS];
+    double before = INFINITY, after = INFINITY;
+    blank_before(sheets[0], 328 + 48 * rows, rows);
+    blank_after(sheets[1], 328 + 48 * rows, rows);
+    for (int k = 0; k < passes; k++) {
+        before = fmin(before, edit_pass(sheets[0], rows, times, m, edit_before));
+        after = fmin(after, edit_pass(sheets[1], rows, times, m, edit_after));
+    }
+    printf("%-52s %8.1f %8.1f %6.2f\n", what, before, after, after / before);
+}
+
 static void fill(double a0, double a1, double b0, double b1)
 {
     for (int k = 0; k < LIST; k++) {
@@ -88,5 +123,10 @@ int main(int count, char **words)
     fill(0.001, 1.5707, -0.006739496742276434, -0.006739496742276434);
     contest("ellipeinc, legs of the meridian", 5, passes);
     contest("ellipf, the same arguments", 6, passes);
+    contest_of_edits("an edit, the sheet's own part, 1 row", 1, 1, 0, passes * 8);
+    contest_of_edits("an edit, the sheet's own part, 32 rows", 32, 1, 0, passes * 8);
+    contest_of_edits("an edit, the sheet's own part, 1,024 rows", MOST_ROWS, 1, 0, passes * 8);
+    contest_of_edits("the same, 1,024 rows, driven 65,535 times", MOST_ROWS, 65535, 0, passes * 8);
+    contest_of_edits("an edit, a leg of the meridian, 1,024 rows", MOST_ROWS, 1, -0.006739496742276434, passes);
     return 0;
 }

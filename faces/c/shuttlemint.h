@@ -39,7 +39,7 @@ enum {
     SM_CHARACTERISTIC_ONE = 4,  /* n = 1 */
     SM_NOT_SETTLED = 5,         /* a recipe's stop test is still unmet after 64 rounds: an argument is too large or too small for it */
     SM_NO_NUMBER = 6,           /* the steps end in no number: they overflow, or meet zero times infinity */
-    SM_NOT_A_SHEET = 7,         /* the length or the contents are not those of a sheet; a length of `out` that is not 2 */
+    SM_NOT_A_SHEET = 7,         /* the length or the contents are not those of a sheet, or an edit is asked of one without times; a length of `out` that is not 2 */
     SM_NO_SUCH_ROW = 8,         /* the row number is not below the row count */
     SM_NO_SUCH_FUNCTION = 9,    /* the function number is above the last */
     SM_DAMAGED = 10,            /* the row to be replaced, or the counts, are damaged */
@@ -61,9 +61,13 @@ enum {
 
 /* A sheet of r rows, 0 <= r <= 1,024, has exactly SM_SHEET_BYTES(r) bytes; numbers in it are little-endian:
 
-       32 bytes      contents: uint32_t 1, 32, 48 r, r, 2, 32 + 48 r, 296, 1
-       48 bytes r times, a row: 1 byte function, 1 byte refusal, 6 zeros, 3 uint64_t arguments, 2 uint64_t answers
+       32 bytes      contents: uint32_t 3, 32, 48 r, r, 2, 32 + 48 r, 296, 1
+       48 bytes r times, a row: 1 byte function, 1 byte refusal, uint16_t times, 4 zeros, 3 uint64_t arguments, 2 uint64_t answers
        296 bytes     totals: uint32_t counts of the rows that are blank, finite, +infinite, -infinite, refused; 4 zeros; 272 bytes, the exact total
+
+   Times is how often the leg of the row was driven, 0 to 65,535; a blank row has 0. The total is the sum of times multiplied by first answer over the finite
+   rows. A sheet from before rows kept times says 1 in place of 3 and has zeros in place of times: its legs count once each. It is read by every call that
+   reads, and not edited: sm_edit and the calls made of it give 7.
 
    A refused call changes no byte. */
 #define SM_MOST_ROWS 1024u
@@ -73,6 +77,7 @@ enum {
 /* Places in a row, and the place of the counts in a sheet of so many bytes. */
 #define SM_ROW_FUNCTION 0u
 #define SM_ROW_REFUSAL 1u
+#define SM_ROW_TIMES 2u
 #define SM_ROW_ARGUMENTS 8u
 #define SM_ROW_ANSWERS 32u
 #define SM_COUNTS(sheet_length) ((sheet_length) - 296u)
@@ -89,9 +94,9 @@ static inline uint8_t sm_ellippi(double n, double m, double *pi);
 static inline uint8_t sm_ellipeinc(double phi, double m, double *e);
 static inline uint8_t sm_ellipf(double phi, double m, double *f);
 
-/* Works out the integral and puts it in the row, in place of what stands there; the counts and the total follow. Gives 0; or 7, 8 or 10, tried in this
-   order. A refusal of the integral itself, 1 to 6, is no refusal of the call: the row keeps it, with zeros for answers, and the call gives 0. sm_clear makes
-   the row blank. sm_blank, below, makes a sheet. */
+/* Works out the integral and puts it in the row, in place of what stands there, as a leg that was driven once; the counts and the total follow. Gives 0; or 7,
+   8 or 10, tried in this order. A refusal of the integral itself, 1 to 6, is no refusal of the call: the row keeps it, with zeros for answers, and the call
+   gives 0. sm_clear makes the row blank. sm_blank, below, makes a sheet. */
 static inline uint8_t sm_enter_ellipk(uint8_t *sheet, size_t sheet_length, uint32_t row, double m);
 static inline uint8_t sm_enter_ellipe(uint8_t *sheet, size_t sheet_length, uint32_t row, double m);
 static inline uint8_t sm_enter_ellipke(uint8_t *sheet, size_t sheet_length, uint32_t row, double m);
@@ -100,16 +105,21 @@ static inline uint8_t sm_enter_ellipeinc(uint8_t *sheet, size_t sheet_length, ui
 static inline uint8_t sm_enter_ellipf(uint8_t *sheet, size_t sheet_length, uint32_t row, double phi, double m);
 static inline uint8_t sm_clear(uint8_t *sheet, size_t sheet_length, uint32_t row);
 
-/* A row as it stands in the sheet. */
+/* The same for a leg that was driven so often, 0 to 65,535 times, by the function's number: its arguments a and b as doubles, 0 for one that it does not read.
+   Gives 0; or 7, 8, 9 or 10. C cuts a larger number of times to 16 bits without a word where it is no constant (gcc's -Wconversion tells): test it before. */
+static inline uint8_t sm_enter_times(uint8_t *sheet, size_t sheet_length, uint32_t row, uint8_t function, double a, double b, uint16_t times);
+
+/* A row as it stands in the sheet. Times are 1 for a row of a sheet that says 1, or 0 where it is blank. */
 typedef struct {
     uint8_t function, refusal;
+    uint16_t times;
     double arguments[3], answers[2];
 } sm_row;
 
 /* Reads a row. Gives 0; or 7, then 8, and writes zeros. */
 static inline uint8_t sm_read(const uint8_t *sheet, size_t sheet_length, uint32_t row, sm_row *read);
 
-/* The exact total of the finite rows' first answers, rounded once; +0 where the bytes are no sheet (sm_total_refusal, below, tells). */
+/* The exact total of the finite rows, times multiplied by first answer, rounded once; +0 where the bytes are no sheet (sm_total_refusal, below, tells). */
 static inline double sm_sum(const uint8_t *sheet, size_t sheet_length);
 
 /* A double's bit pattern, and back. */
@@ -145,14 +155,15 @@ uint64_t sm_logarithm(uint64_t x);
    or, where out_length is not 2, gives 7 and writes nothing. Function 0 has two zeros for its answers. */
 uint8_t sm_evaluate(uint8_t function, uint64_t a, uint64_t b, uint64_t c, uint64_t *out, size_t out_length);
 
-/* Makes the bytes, whatever they hold, a sheet of so many blank rows. Gives 0; 11 for more than 1,024 rows; then 7 where the length is not
+/* Makes the bytes, whatever they hold, a sheet of so many blank rows, which says 3. Gives 0; 11 for more than 1,024 rows; then 7 where the length is not
    SM_SHEET_BYTES(rows). */
 uint8_t sm_blank(uint8_t *sheet, size_t sheet_length, uint32_t rows);
 
-/* Works out the function of this number and puts it in the row, in place of what stands there; the counts and the total follow. To function 0, it
-   clears the row. Arguments that the function does not read are stored as zeros. Gives 0; or 7, 8, 9 or 10, tried in this order. A refusal of the function
-   itself, 1 to 6, is no refusal of the edit: the row keeps it, with zeros for answers, and the edit gives 0. */
-uint8_t sm_edit(uint8_t *sheet, size_t sheet_length, uint32_t row, uint8_t function, uint64_t a, uint64_t b, uint64_t c);
+/* Works out the function of this number and puts it in the row, in place of what stands there, as a leg that was driven so many times; the counts and the
+   total follow. To function 0, it clears the row, whatever the times. Arguments that the function does not read are stored as zeros. Gives 0; or 7 (also for a
+   sheet that says 1), 8, 9 or 10, tried in this order. A refusal of the function itself, 1 to 6, is no refusal of the edit: the row keeps it, with zeros for
+   answers, and the edit gives 0. */
+uint8_t sm_edit(uint8_t *sheet, size_t sheet_length, uint32_t row, uint8_t function, uint64_t a, uint64_t b, uint64_t c, uint16_t times);
 
 /* Where the row's own 48 bytes start in the sheet; sheet_length where the row can't be read. sm_row_refusal says why: 7, then 8, or 0. */
 size_t sm_row_at(const uint8_t *sheet, size_t sheet_length, uint32_t row);
@@ -163,7 +174,10 @@ uint8_t sm_row_refusal(const uint8_t *sheet, size_t sheet_length, uint32_t row);
 size_t sm_row_class(const uint8_t *sheet, size_t sheet_length, uint32_t row);
 uint32_t sm_count(const uint8_t *sheet, size_t sheet_length, uint8_t class_number);
 
-/* The pattern of the exact total of the finite rows' first answers, rounded once, ties to even: too large is infinite, zero is +0. Where the bytes are no
+/* How often the row was driven, as its bytes say; for a sheet that says 1, 0 for a blank row and 1 for any other. 0 where the row can't be read. */
+uint16_t sm_row_times(const uint8_t *sheet, size_t sheet_length, uint32_t row);
+
+/* The pattern of the exact total of the finite rows, times multiplied by first answer, rounded once, ties to even: too large is infinite, zero is +0. Where the bytes are no
    sheet it is +0, and sm_total_refusal gives 7, else 0. */
 uint64_t sm_total(const uint8_t *sheet, size_t sheet_length);
 uint8_t sm_total_refusal(const uint8_t *sheet, size_t sheet_length);
@@ -186,8 +200,8 @@ uint8_t sm_total_refusal(const uint8_t *sheet, size_t sheet_length);
 #define sm_cosine(x) sm_cosine(SM_WHOLE(x))
 #define sm_logarithm(x) sm_logarithm(SM_WHOLE(x))
 #define sm_evaluate(function, a, b, c, out, out_length) sm_evaluate(function, SM_WHOLE(a), SM_WHOLE(b), SM_WHOLE(c), out, out_length)
-#define sm_edit(sheet, sheet_length, row, function, a, b, c) \
-    sm_edit(sheet, sheet_length, row, function, SM_WHOLE(a), SM_WHOLE(b), SM_WHOLE(c))
+#define sm_edit(sheet, sheet_length, row, function, a, b, c, times) \
+    sm_edit(sheet, sheet_length, row, function, SM_WHOLE(a), SM_WHOLE(b), SM_WHOLE(c), times)
 #define sm_value(pattern) sm_value(SM_WHOLE(pattern))
 
 /* ---- How the first offer is made of the second. */
@@ -237,44 +251,44 @@ static inline uint8_t sm_ellippi(double n, double m, double *pi) { return sm_fir
 static inline uint8_t sm_ellipeinc(double phi, double m, double *e) { return sm_first(SM_ELLIPEINC, phi, m, e); }
 static inline uint8_t sm_ellipf(double phi, double m, double *f) { return sm_first(SM_ELLIPF, phi, m, f); }
 
-static inline uint8_t sm_enter(uint8_t *sheet, size_t sheet_length, uint32_t row, uint8_t function, double a, double b)
+static inline uint8_t sm_enter_times(uint8_t *sheet, size_t sheet_length, uint32_t row, uint8_t function, double a, double b, uint16_t times)
 {
-    return sm_edit(sheet, sheet_length, row, function, sm_pattern(a), sm_pattern(b), 0);
+    return sm_edit(sheet, sheet_length, row, function, sm_pattern(a), sm_pattern(b), 0, times);
 }
 
 static inline uint8_t sm_enter_ellipk(uint8_t *sheet, size_t sheet_length, uint32_t row, double m)
 {
-    return sm_enter(sheet, sheet_length, row, SM_ELLIPK, m, 0);
+    return sm_enter_times(sheet, sheet_length, row, SM_ELLIPK, m, 0, 1);
 }
 
 static inline uint8_t sm_enter_ellipe(uint8_t *sheet, size_t sheet_length, uint32_t row, double m)
 {
-    return sm_enter(sheet, sheet_length, row, SM_ELLIPE, m, 0);
+    return sm_enter_times(sheet, sheet_length, row, SM_ELLIPE, m, 0, 1);
 }
 
 static inline uint8_t sm_enter_ellipke(uint8_t *sheet, size_t sheet_length, uint32_t row, double m)
 {
-    return sm_enter(sheet, sheet_length, row, SM_ELLIPKE, m, 0);
+    return sm_enter_times(sheet, sheet_length, row, SM_ELLIPKE, m, 0, 1);
 }
 
 static inline uint8_t sm_enter_ellippi(uint8_t *sheet, size_t sheet_length, uint32_t row, double n, double m)
 {
-    return sm_enter(sheet, sheet_length, row, SM_ELLIPPI, n, m);
+    return sm_enter_times(sheet, sheet_length, row, SM_ELLIPPI, n, m, 1);
 }
 
 static inline uint8_t sm_enter_ellipeinc(uint8_t *sheet, size_t sheet_length, uint32_t row, double phi, double m)
 {
-    return sm_enter(sheet, sheet_length, row, SM_ELLIPEINC, phi, m);
+    return sm_enter_times(sheet, sheet_length, row, SM_ELLIPEINC, phi, m, 1);
 }
 
 static inline uint8_t sm_enter_ellipf(uint8_t *sheet, size_t sheet_length, uint32_t row, double phi, double m)
 {
-    return sm_enter(sheet, sheet_length, row, SM_ELLIPF, phi, m);
+    return sm_enter_times(sheet, sheet_length, row, SM_ELLIPF, phi, m, 1);
 }
 
 static inline uint8_t sm_clear(uint8_t *sheet, size_t sheet_length, uint32_t row)
 {
-    return sm_edit(sheet, sheet_length, row, SM_BLANK, 0, 0, 0);
+    return sm_edit(sheet, sheet_length, row, SM_BLANK, 0, 0, 0, 0);
 }
 
 static inline uint8_t sm_read(const uint8_t *sheet, size_t sheet_length, uint32_t row, sm_row *read)
@@ -285,6 +299,7 @@ static inline uint8_t sm_read(const uint8_t *sheet, size_t sheet_length, uint32_
         const uint8_t *bytes = sheet + sm_row_at(sheet, sheet_length, row);
         read->function = bytes[SM_ROW_FUNCTION];
         read->refusal = bytes[SM_ROW_REFUSAL];
+        read->times = sm_row_times(sheet, sheet_length, row);
         for (size_t k = 0; k < 3; k++)
             read->arguments[k] = sm_double_at(bytes + SM_ROW_ARGUMENTS + 8 * k);
         for (size_t k = 0; k < 2; k++)

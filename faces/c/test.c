@@ -142,23 +142,28 @@ static void doubles(void)
         uint8_t *sheet = blank(7), raw[SM_SHEET_BYTES(7)];
         sm_row row;
         CHECK(sm_blank(raw, length, 7) == 0);
-        CHECK(sm_enter_ellipk(sheet, length, 0, 0.5) == 0 && sm_edit(raw, length, 0, SM_ELLIPK, sm_pattern(0.5), 0, 0) == 0);
-        CHECK(sm_enter_ellipe(sheet, length, 1, 0.25) == 0 && sm_edit(raw, length, 1, SM_ELLIPE, sm_pattern(0.25), 0, 0) == 0);
-        CHECK(sm_enter_ellipke(sheet, length, 2, -3.0) == 0 && sm_edit(raw, length, 2, SM_ELLIPKE, sm_pattern(-3.0), 0, 0) == 0);
-        CHECK(sm_enter_ellippi(sheet, length, 3, 1.0, 0.5) == 0 && sm_edit(raw, length, 3, SM_ELLIPPI, ONE, sm_pattern(0.5), 0) == 0);
-        CHECK(sm_enter_ellipeinc(sheet, length, 4, 100000.0, 0.0) == 0 && sm_edit(raw, length, 4, SM_ELLIPEINC, sm_pattern(1e5), 0, 0) == 0);
+        CHECK(sm_enter_ellipk(sheet, length, 0, 0.5) == 0 && sm_edit(raw, length, 0, SM_ELLIPK, sm_pattern(0.5), 0, 0, 1) == 0);
+        CHECK(sm_enter_ellipe(sheet, length, 1, 0.25) == 0 && sm_edit(raw, length, 1, SM_ELLIPE, sm_pattern(0.25), 0, 0, 1) == 0);
+        CHECK(sm_enter_ellipke(sheet, length, 2, -3.0) == 0 && sm_edit(raw, length, 2, SM_ELLIPKE, sm_pattern(-3.0), 0, 0, 1) == 0);
+        CHECK(sm_enter_ellippi(sheet, length, 3, 1.0, 0.5) == 0 && sm_edit(raw, length, 3, SM_ELLIPPI, ONE, sm_pattern(0.5), 0, 1) == 0);
+        CHECK(sm_enter_ellipeinc(sheet, length, 4, 100000.0, 0.0) == 0 && sm_edit(raw, length, 4, SM_ELLIPEINC, sm_pattern(1e5), 0, 0, 1) == 0);
         CHECK(sm_enter_ellipf(sheet, length, 5, 0.75, 0.5) == 0 &&
-              sm_edit(raw, length, 5, SM_ELLIPF, sm_pattern(0.75), sm_pattern(0.5), 0) == 0);
+              sm_edit(raw, length, 5, SM_ELLIPF, sm_pattern(0.75), sm_pattern(0.5), 0, 1) == 0);
         CHECK(sm_enter_ellipk(sheet, length, 6, 0.5) == 0 && sm_clear(sheet, length, 6) == 0);
+        CHECK(sm_enter_times(sheet, length, 6, SM_ELLIPF, 0.75, 0.5, 300) == 0 &&
+              sm_edit(raw, length, 6, SM_ELLIPF, sm_pattern(0.75), sm_pattern(0.5), 0, 300) == 0);
         CHECK(memcmp(sheet, raw, length) == 0);
         only_read(1);
         CHECK(sm_sum(sheet, length) == sm_value(sm_total(raw, length)) && sm_sum(sheet, length) > 100000.0);
-        CHECK(sm_read(sheet, length, 4, &row) == 0 && row.function == SM_ELLIPEINC && row.refusal == 0);
+        CHECK(sm_read(sheet, length, 4, &row) == 0 && row.function == SM_ELLIPEINC && row.refusal == 0 && row.times == 1);
+        CHECK(sm_read(sheet, length, 6, &row) == 0 && row.function == SM_ELLIPF && row.times == 300);
+        CHECK(sm_read(sheet, length, 4, &row) == 0);
         CHECK(row.arguments[0] == 100000.0 && row.arguments[1] == 0.0 && row.arguments[2] == 0.0 && row.answers[0] == 100000.0 && row.answers[1] == 0.0);
         CHECK(sm_read(sheet, length, 3, &row) == 0 && row.refusal == SM_CHARACTERISTIC_ONE && row.answers[0] == 0.0 && row.arguments[1] == 0.5);
-        CHECK(sm_read(sheet, length, 7, &row) == SM_NO_SUCH_ROW && row.function == 0 && row.refusal == 0 && row.arguments[0] == 0.0);
+        CHECK(sm_read(sheet, length, 7, &row) == SM_NO_SUCH_ROW && row.function == 0 && row.refusal == 0 && row.times == 0 && row.arguments[0] == 0.0);
         CHECK(sm_read(sheet, length - 1, 0, &row) == SM_NOT_A_SHEET && sm_sum(sheet, length - 1) == 0.0);
         CHECK(sm_enter_ellipk(sheet, length, 7, 0.5) == SM_NO_SUCH_ROW && sm_clear(sheet, length, 7) == SM_NO_SUCH_ROW);
+        CHECK(sm_enter_times(sheet, length, 0, SM_LAST_FUNCTION + 1, 0.5, 0, 2) == SM_NO_SUCH_FUNCTION);
         only_read(0);
     }
 }
@@ -169,10 +174,10 @@ static void good_sheets(void)
     uint8_t *sheet = blank(4);
     const uint8_t *row;
     CHECK(counts_are(sheet, length, 4, 0, 0, 0, 0));
-    CHECK(sm_edit(sheet, length, 0, SM_ELLIPKE, ONE, 1, 2) == 0);
-    CHECK(sm_edit(sheet, length, 1, SM_ELLIPEINC, 0, NOT_A_NUMBER, 0) == 0);
-    CHECK(sm_edit(sheet, length, 2, SM_ELLIPPI, ONE, ONE, 0) == 0);
-    CHECK(sm_edit(sheet, length, 3, SM_ELLIPEINC, sm_pattern(2.0), 0, 0) == 0);
+    CHECK(sm_edit(sheet, length, 0, SM_ELLIPKE, ONE, 1, 2, 1) == 0);
+    CHECK(sm_edit(sheet, length, 1, SM_ELLIPEINC, 0, NOT_A_NUMBER, 0, 1) == 0);
+    CHECK(sm_edit(sheet, length, 2, SM_ELLIPPI, ONE, ONE, 0, 1) == 0);
+    CHECK(sm_edit(sheet, length, 3, SM_ELLIPEINC, sm_pattern(2.0), 0, 0, 1) == 0);
     only_read(1);
     CHECK(counts_are(sheet, length, 0, 2, 1, 0, 1));
     CHECK(sm_total(sheet, length) == sm_pattern(2.0) && sm_total_refusal(sheet, length) == 0);
@@ -185,15 +190,15 @@ static void good_sheets(void)
 
     /* Refused, on bytes that can only be read. */
     CHECK(sm_row_at(sheet, length, 4) == length && sm_row_refusal(sheet, length, 4) == SM_NO_SUCH_ROW);
-    CHECK(sm_edit(sheet, length, 4, SM_LAST_FUNCTION + 1, 0, 0, 0) == SM_NO_SUCH_ROW);
-    CHECK(sm_edit(sheet, length, UINT32_MAX, 0, 0, 0, 0) == SM_NO_SUCH_ROW);
-    CHECK(sm_edit(sheet, length, 3, SM_LAST_FUNCTION + 1, 0, 0, 0) == SM_NO_SUCH_FUNCTION);
-    CHECK(sm_edit(sheet, length, 3, 255, 0, 0, 0) == SM_NO_SUCH_FUNCTION);
+    CHECK(sm_edit(sheet, length, 4, SM_LAST_FUNCTION + 1, 0, 0, 0, 1) == SM_NO_SUCH_ROW);
+    CHECK(sm_edit(sheet, length, UINT32_MAX, 0, 0, 0, 0, 1) == SM_NO_SUCH_ROW);
+    CHECK(sm_edit(sheet, length, 3, SM_LAST_FUNCTION + 1, 0, 0, 0, 1) == SM_NO_SUCH_FUNCTION);
+    CHECK(sm_edit(sheet, length, 3, 255, 0, 0, 0, 1) == SM_NO_SUCH_FUNCTION);
     CHECK(sm_blank(sheet, length, 3) == SM_NOT_A_SHEET);
     CHECK(sm_blank(sheet, length, 1025) == SM_TOO_MANY_ROWS);
     only_read(0);
     for (uint32_t i = 0; i < 4; i++)
-        CHECK(sm_edit(sheet, length, i, SM_BLANK, 0, 0, 0) == 0);
+        CHECK(sm_edit(sheet, length, i, SM_BLANK, 0, 0, 0, 9) == 0);
     CHECK(counts_are(sheet, length, 4, 0, 0, 0, 0) && sm_total(sheet, length) == 0);
 }
 
@@ -201,9 +206,9 @@ static void good_sheets(void)
 static void is_no_sheet(uint8_t *bytes, size_t length)
 {
     only_read(1);
-    CHECK(sm_edit(bytes, length, 0, SM_ELLIPK, 0, 0, 0) == SM_NOT_A_SHEET);
-    CHECK(sm_edit(bytes, length, UINT32_MAX, 255, 0, 0, 0) == SM_NOT_A_SHEET);
-    CHECK(sm_row_at(bytes, length, 0) == length && sm_row_refusal(bytes, length, 0) == SM_NOT_A_SHEET);
+    CHECK(sm_edit(bytes, length, 0, SM_ELLIPK, 0, 0, 0, 1) == SM_NOT_A_SHEET);
+    CHECK(sm_edit(bytes, length, UINT32_MAX, 255, 0, 0, 0, 1) == SM_NOT_A_SHEET);
+    CHECK(sm_row_at(bytes, length, 0) == length && sm_row_refusal(bytes, length, 0) == SM_NOT_A_SHEET && sm_row_times(bytes, length, 0) == 0);
     CHECK(sm_total(bytes, length) == 0 && sm_total_refusal(bytes, length) == SM_NOT_A_SHEET);
     only_read(0);
 }
@@ -240,10 +245,10 @@ static uint8_t after(size_t place, uint8_t byte)
 {
     const size_t length = SM_SHEET_BYTES(1);
     uint8_t *sheet = blank(1), refusal;
-    CHECK(sm_edit(sheet, length, 0, SM_ELLIPEINC, sm_pattern(-1.5), 0, 0) == 0);
+    CHECK(sm_edit(sheet, length, 0, SM_ELLIPEINC, sm_pattern(-1.5), 0, 0, 1) == 0);
     sheet[place] = byte;
     only_read(sm_row_refusal(sheet, length, 0) != 0);
-    refusal = sm_edit(sheet, length, 0, SM_ELLIPEINC, ONE, 0, 0);
+    refusal = sm_edit(sheet, length, 0, SM_ELLIPEINC, ONE, 0, 0, 1);
     if (refusal == 0)
         CHECK(counts_are(sheet, length, 0, 1, 0, 0, 0));
     if (refusal == SM_DAMAGED)
@@ -262,7 +267,7 @@ static void damaged_sheets(void)
     CHECK(after(row + SM_ROW_REFUSAL, 6) == SM_DAMAGED);  /* refused, and no refused row is counted */
     CHECK(after(row + SM_ROW_REFUSAL, 7) == SM_DAMAGED);
     for (size_t place = 2; place < SM_ROW_ANSWERS + 8; place++)
-        CHECK(after(row + place, 0x55) == 0); /* zeros, arguments, and a first answer that is another finite number */
+        CHECK(after(row + place, 0x55) == 0); /* times, zeros, arguments, and a first answer that is another finite number */
     for (size_t place = 0; place < 20; place++)
         CHECK(after(counts + place, 0x55) == SM_DAMAGED);
     for (size_t place = 20; place < 296; place++)
@@ -272,10 +277,65 @@ static void damaged_sheets(void)
         const size_t length = SM_SHEET_BYTES(1);
         memset(sheet + row + SM_ROW_ANSWERS, 0xff, 8);
         only_read(1);
-        CHECK(sm_edit(sheet, length, 0, SM_BLANK, 0, 0, 0) == SM_DAMAGED); /* a NaN for a first answer */
+        CHECK(sm_edit(sheet, length, 0, SM_BLANK, 0, 0, 0, 1) == SM_DAMAGED); /* a NaN for a first answer */
         CHECK(sm_row_refusal(sheet, length, 0) == 0 && sm_total_refusal(sheet, length) == 0);
         only_read(0);
     }
+}
+
+static void times_driven(void)
+{
+    static const uint16_t often[] = {65535, 0, 1, 2, 255, 256, 0x0102};
+    static const uint8_t zeros[SM_ROW_BYTES] = {0};
+    const size_t length = SM_SHEET_BYTES(2);
+    uint8_t *sheet = blank(2), *row = sheet + sm_row_at(sheet, length, 1);
+    CHECK(u32_at(sheet) == 3);
+    /* The same leg again and again: the old row goes with its own times. */
+    for (size_t i = 0; i < sizeof often / sizeof *often; i++) {
+        CHECK(sm_edit(sheet, length, 1, SM_ELLIPEINC, sm_pattern(-1.5), 0, 0, often[i]) == 0);
+        CHECK(row[SM_ROW_TIMES] == often[i] % 256 && row[SM_ROW_TIMES + 1] == often[i] / 256 && u32_at(row + 4) == 0);
+        CHECK(sm_row_times(sheet, length, 1) == often[i] && sm_row_times(sheet, length, 0) == 0 && sm_row_times(sheet, length, 2) == 0);
+        CHECK(sm_sum(sheet, length) == -1.5 * often[i] && counts_are(sheet, length, 1, 1, 0, 0, 0));
+    }
+    /* A refused row and an infinite one keep their times and add nothing; a blank row keeps none. */
+    CHECK(sm_edit(sheet, length, 1, SM_ELLIPPI, ONE, ONE, 0, 7) == 0 && sm_row_times(sheet, length, 1) == 7 && sm_total(sheet, length) == 0);
+    CHECK(sm_edit(sheet, length, 1, SM_ELLIPK, ONE, 0, 0, 8) == 0 && sm_row_times(sheet, length, 1) == 8 && sm_total(sheet, length) == 0);
+    CHECK(sm_edit(sheet, length, 1, SM_BLANK, ONE, 0, 0, 9) == 0 && memcmp(row, zeros, SM_ROW_BYTES) == 0);
+    CHECK(counts_are(sheet, length, 2, 0, 0, 0, 0));
+}
+
+/* A sheet from before rows kept times says 1: it is read, each leg once, and not edited. One that says neither is none. */
+static void old_sheets(void)
+{
+    const size_t length = SM_SHEET_BYTES(3);
+    uint8_t *sheet = blank(3), old[SM_SHEET_BYTES(3)];
+    sm_row row;
+    CHECK(sm_enter_ellipeinc(sheet, length, 0, -1.5, 0) == 0 && sm_enter_ellippi(sheet, length, 1, 1, 1) == 0);
+    sheet[0] = 1;
+    sheet[32 + SM_ROW_TIMES] = sheet[32 + SM_ROW_BYTES + SM_ROW_TIMES] = 0;
+    memcpy(old, sheet, length);
+    for (int other = 0; other < 2; other++) { /* whatever stands where times do */
+        only_read(1);
+        CHECK(sm_row_times(sheet, length, 0) == 1 && sm_row_times(sheet, length, 1) == 1 && sm_row_times(sheet, length, 2) == 0 &&
+              sm_row_times(sheet, length, 3) == 0);
+        CHECK(sm_read(sheet, length, 0, &row) == 0 && row.times == 1 && row.answers[0] == -1.5);
+        CHECK(sm_read(sheet, length, 2, &row) == 0 && row.times == 0);
+        CHECK(sm_row_class(sheet, length, 1) == 4 && sm_row_at(sheet, length, 1) == 32 + SM_ROW_BYTES && sm_row_refusal(sheet, length, 3) == SM_NO_SUCH_ROW);
+        CHECK(sm_sum(sheet, length) == -1.5 && sm_total_refusal(sheet, length) == 0 && sm_count(sheet, length, 4) == 1);
+        CHECK(sm_edit(sheet, length, 0, SM_ELLIPK, 0, 0, 0, 1) == SM_NOT_A_SHEET && sm_edit(sheet, length, 3, 255, 0, 0, 0, 1) == SM_NOT_A_SHEET);
+        CHECK(sm_enter_ellipk(sheet, length, 0, 0) == SM_NOT_A_SHEET && sm_clear(sheet, length, 0) == SM_NOT_A_SHEET);
+        only_read(0);
+        for (uint32_t i = 0; i < 3; i++)
+            sheet[32 + SM_ROW_BYTES * i + SM_ROW_TIMES] = 0x55;
+    }
+    for (int says = 0; says < 256; says++) {
+        memcpy(sheet, old, length);
+        sheet[0] = (uint8_t)says;
+        if (says != 1 && says != 3)
+            is_no_sheet(sheet, length);
+    }
+    memcpy(sheet, old, length);
+    CHECK(sm_blank(sheet, length, 3) == 0 && u32_at(sheet) == 3);
 }
 
 static void largest_sheet(void)
@@ -283,13 +343,13 @@ static void largest_sheet(void)
     const size_t length = SM_SHEET_BYTES(SM_MOST_ROWS);
     uint8_t *sheet = blank(SM_MOST_ROWS);
     unsigned accepted = 0;
-    /* 1e300, then ones, then -1e300: a running sum in doubles would lose the ones. */
+    /* 1e300, then ones, then -1e300, all so often: a running sum in doubles would lose the ones. */
     for (uint32_t i = 0; i < SM_MOST_ROWS; i++) {
         const double leg = i == 0 ? 1e300 : i == SM_MOST_ROWS - 1 ? -1e300 : 1.0;
-        accepted += sm_edit(sheet, length, i, SM_ELLIPEINC, sm_pattern(leg), 0, 0) == 0;
+        accepted += sm_edit(sheet, length, i, SM_ELLIPEINC, sm_pattern(leg), 0, 0, 65535) == 0;
     }
     CHECK(accepted == SM_MOST_ROWS);
-    CHECK(sm_value(sm_total(sheet, length)) == 1022.0);
+    CHECK(sm_value(sm_total(sheet, length)) == 1022.0 * 65535.0);
     CHECK(sm_row_at(sheet, length, SM_MOST_ROWS - 1) == length - 296 - SM_ROW_BYTES);
 }
 
@@ -306,6 +366,8 @@ int main(void)
     good_sheets();
     bad_sheets();
     damaged_sheets();
+    times_driven();
+    old_sheets();
     largest_sheet();
     printf("%u checks, %u failures\n", checks, failures);
     return failures != 0;

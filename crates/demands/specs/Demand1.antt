@@ -4,6 +4,7 @@ use mathlib.Core.Path.{_≡_, refl}
 use mathlib.Core.Bool.{Bool, true, false, cond, not}
 use mathlib.Core.List.{List, [], _∷_}
 use Prim.Native.Nat.{ℕ, _≤_, _<_}
+use native.Mathlib.Omega.{arith}
 use borrow.Author.Tests.{ne-eqb}
 use lib.Dec.{leb, ltb, eqb}
 use lib.ListN.{length}
@@ -17,8 +18,9 @@ use Rattle.answer.specs.Sound.{Sound}
 use Rattle.answer.specs.laws.Sound.{never-nan, refused-zeros}
 use Rattle.functions.specs.Functions.{evaluateOf}
 use Rattle.functions.specs.laws.Evaluated.{evaluated-sound, beyond}
-use Rattle.ledger.specs.Sheet.{mostRows, sizeFor}
-use Rattle.ledger.specs.Calls.{isSheet, rowsIn, damaged, rungs, blankRefusal, blankOf, rowRefusal, readOf, totalRefusal, totalOf}
+use Rattle.ledger.specs.Sheet.{withoutTimes, withTimes, mostRows, sizeFor}
+use Rattle.ledger.specs.Calls.{isSheetOf, isSheet, rowsIn, damaged, rungs, blankRefusal, blankOf, rowRefusal, readOf, timesOf, totalRefusal, totalOf}
+use Rattle.ledger.specs.laws.Refusals.{says}
 use Rattle.sheet.specs.declared.Entry.{Entry}
 use Rattle.sheet.specs.Edit.{editRefusal, editOf}
 
@@ -44,9 +46,12 @@ pub record Demand1 : Type 0 where
   -- a refused call changes no byte
   pub blank-kept : (s : List ℕ) (r : ℕ) → (blankRefusal s r ≡ 0 → ⊥) → blankOf s r ≡ s
   pub edit-kept : (s : List ℕ) (i : ℕ) (e : Entry) → (editRefusal s i (e .function) ≡ 0 → ⊥) → editOf s i e ≡ s
-  -- a refused row read hands back nothing, and a refused total is +0
+  -- a refused row read hands back nothing, a refused total is +0 and refused times are 0
   pub read-nothing : (s : List ℕ) (i : ℕ) → (rowRefusal s i ≡ 0 → ⊥) → readOf s i ≡ []
   pub total-zero : (s : List ℕ) → (totalRefusal s ≡ 0 → ⊥) → totalOf s ≡ +0
+  pub times-zero : (s : List ℕ) (i : ℕ) → (rowRefusal s i ≡ 0 → ⊥) → timesOf s i ≡ 0
+  -- a sheet without times is only read: every edit of it is refused by 7
+  pub only-read : (s : List ℕ) (i f : ℕ) → isSheetOf withoutTimes s ≡ true → (totalRefusal s ≡ 0) × (editRefusal s i f ≡ 7)
 
 -- ---- why
 
@@ -68,7 +73,7 @@ blank-of s r = go (ltb mostRows r) (eqb (length s) (sizeFor r))
 
 edit-of : (s : List ℕ) (i f : ℕ) → OneOf (editRefusal s i f) (0 ∷ 7 ∷ 8 ∷ 9 ∷ 10 ∷ [])
 unfolding editRefusal rungs
-edit-of s i f = go (isSheet s) (leb (rowsIn s) i) (ltb last f) (damaged s i)
+edit-of s i f = go (isSheetOf withTimes s) (leb (rowsIn s) i) (ltb last f) (damaged s i)
   where
     go : (p q r t : Bool) → OneOf (cond (not p) 7 (cond q 8 (cond r 9 (cond t 10 0)))) (0 ∷ 7 ∷ 8 ∷ 9 ∷ 10 ∷ [])
     go false q r t = there here
@@ -110,6 +115,22 @@ total-none : (s : List ℕ) → (totalRefusal s ≡ 0 → ⊥) → totalOf s ≡
 unfolding totalOf
 total-none s h = rw (ne-eqb (totalRefusal s) 0 h)
 
+times-none : (s : List ℕ) (i : ℕ) → (rowRefusal s i ≡ 0 → ⊥) → timesOf s i ≡ 0
+unfolding timesOf
+times-none s i h = rw (ne-eqb (rowRefusal s i) 0 h)
+
+-- its first word is not the other's
+not-both : (s : List ℕ) → isSheetOf withoutTimes s ≡ true → isSheetOf withTimes s ≡ false
+not-both s h = go (isSheetOf withTimes s) refl
+  where
+    go : (b : Bool) → isSheetOf withTimes s ≡ b → b ≡ false
+    go false e = refl
+    go true e = absurd (let z : ⊥ = omega (arith, says withoutTimes s h, says withTimes s e) in z)
+
+old-read : (s : List ℕ) (i f : ℕ) → isSheetOf withoutTimes s ≡ true → (totalRefusal s ≡ 0) × (editRefusal s i f ≡ 7)
+unfolding totalRefusal editRefusal isSheet
+old-read s i f h = (rw (not-both s h, h), rw (not-both s h))
+
 pub demand-1 : Demand1
 demand-1 = record {
   answers = evaluated-sound;
@@ -124,4 +145,6 @@ demand-1 = record {
   edit-kept = edit-same;
   read-nothing = read-none;
   total-zero = total-none;
+  times-zero = times-none;
+  only-read = old-read;
 }

@@ -1,6 +1,6 @@
 -- DEMAND 3. For a sheet that the library made blank, or the sheet of any rows that were worked out, and any list of edits, accepted or refused: the sheet is that
 -- of the rows worked out afresh from the last accepted edit of each row. `run`, `after` and `answer` are the definitions that the contracts of `make_blank` and
--- `edit` cite, so this speaks of what the code does. It is one argument for every function number. It speaks of rows
+-- `edit` cite, so this speaks of what the code does. It is one argument for every function number and all times. It speaks of rows
 -- that this library worked out: a row from before 02's [7] keeps its old answer until it is edited. Assumes nothing.
 use mathlib.Core.Path.{_≡_, ap, _∙_, sym}
 use mathlib.Core.Logic.{_≢_}
@@ -32,7 +32,7 @@ use Rattle.demands.specs.laws.Runs.{fresh-rows, fresh-length, run-fresh,
 pub record Demand3 (s : List ℕ) (ws : List Row) : Type 0 where
   -- answers, refusals, counts and total are those of the rows worked out afresh
   pub sheet : (es : List Edit) → run s es ≡ encode (fresh ws es)
-  -- a row that was worked out says its function, and that function's refusal number and first answer
+  -- a row that was worked out says its function, its times, and that function's refusal number and first answer
   pub says-its-answer : (e : Entry) → (e .function ≡ 0 → ⊥) → Says e (rowOf e)
   -- an edit is refused by its row, then by its function, and for nothing else
   pub refusals : (es : List Edit) (e : Edit) → answer (run s es) e ≡ answerIn (length ws) e
@@ -40,12 +40,12 @@ pub record Demand3 (s : List ℕ) (ws : List Row) : Type 0 where
   pub refused : (es : List Edit) (e : Edit) → (answerIn (length ws) e ≡ 0 → ⊥) → after (run s es) e ≡ run s es
   -- edits to different rows, in either order
   pub either : (es : List Edit) (e f : Edit) → e .row ≢ f .row → after (after (run s es) e) f ≡ after (after (run s es) f) e
-  -- the total is the whole-number sum of the finite first answers, in units of 2^-1074: what is above zero less what is below, in two's complement
+  -- the total is the whole-number sum of times by finite first answers, in units of 2^-1074: what is above zero less what is below, in two's complement
   pub total : (es : List Edit) → let vs = fresh ws es in totalIn (run s es) ≡ cond (leb (below vs) (above vs)) (above vs - below vs) (N - (below vs - above vs))
   -- each part is exact: a finite f64 is a whole number of these units, with no digit cut off
   pub exact : (x : Float) → T (fits binary64 x) → T (finite x) → HasValue x (negative x) (sizeOf x) (2 ^ 1074)
-  -- taking a value away undoes adding it
-  pub taken-back : (t : ℕ) (x : Float) → T (fits binary64 x) → takeOf (addOf t x) x ≡ t % N
+  -- taking a value away, so many times, undoes adding it
+  pub taken-back : (t k : ℕ) (x : Float) → k < 2 ^ 16 → T (fits binary64 x) → takeOf (addOf t k x) k x ≡ t % N
   -- it never wraps: neither part reaches half of 2^2176
   pub above-room : (es : List Edit) → above (fresh ws es) < Half
   pub below-room : (es : List Edit) → below (fresh ws es) < Half
@@ -75,7 +75,7 @@ module _ (s : List ℕ) (ws : List Row) (made : s ≡ encode ws) (rows : Rows ws
     either-is e f g = rw sheet-is (either-order (fresh ws es) (fresh-rows ws rows es) few-fresh e f g)
 
     total-is-whole : let vs = fresh ws es in totalIn (run s es) ≡ cond (leb (below vs) (above vs)) (above vs - below vs) (N - (below vs - above vs))
-    total-is-whole = ap totalIn sheet-is ∙ total-is (fresh ws es) (fresh-rows ws rows es) few-fresh ∙ total-whole (fresh ws es) few-fresh
+    total-is-whole = ap totalIn sheet-is ∙ total-is (fresh ws es) (fresh-rows ws rows es) few-fresh ∙ total-whole (fresh ws es) (fresh-rows ws rows es) few-fresh
 
     rounded-is : let vs = fresh ws es in
         totalOf (run s es) ≡ cond (leb (below vs) (above vs)) (round binary64 false (above vs - below vs) (2 ^ 1074)) (round binary64 true (below vs - above vs) (2 ^ 1074))
@@ -84,7 +84,7 @@ module _ (s : List ℕ) (ws : List Row) (made : s ≡ encode ws) (rows : Rows ws
         let t = run s es in
         let z : totalRefusal t ≡ 0 = ap totalRefusal sheet-is ∙ given (fresh ws es) (fresh-rows ws rows es) few-fresh in
         rw (eq-eqb (totalRefusal t) 0 z)
-        (rounded-whole (totalIn t) (below (fresh ws es)) (above (fresh ws es)) (below-small (fresh ws es) few-fresh) (above-small (fresh ws es) few-fresh) total-is-whole)
+        (rounded-whole (totalIn t) (below (fresh ws es)) (above (fresh ws es)) (below-small (fresh ws es) (fresh-rows ws rows es) few-fresh) (above-small (fresh ws es) (fresh-rows ws rows es) few-fresh) total-is-whole)
 
   demanded : Demand3 s ws
   demanded = record {
@@ -96,8 +96,8 @@ module _ (s : List ℕ) (ws : List Row) (made : s ≡ encode ws) (rows : Rows ws
     total = total-is-whole;
     exact = whole;
     taken-back = undone;
-    above-room = λ es. above-small (fresh ws es) (few-fresh es);
-    below-room = λ es. below-small (fresh ws es) (few-fresh es);
+    above-room = λ es. above-small (fresh ws es) (fresh-rows ws rows es) (few-fresh es);
+    below-room = λ es. below-small (fresh ws es) (fresh-rows ws rows es) (few-fresh es);
     rounded = rounded-is;
   }
 

@@ -74,7 +74,7 @@ abbrev pub AllWorked : List Row → Type 0
 AllWorked [] = Unit {0}
 AllWorked (w ∷ ws) = Worked w × AllWorked ws
 
--- ---- the total as a whole number: the rows' weights above zero, and below, in units of 2^-1074
+-- ---- the total as a whole number: the rows' weights (times by first answer) above zero, and below, in units of 2^-1074
 
 unfoldable pub above : List Row → ℕ
 above [] = 0

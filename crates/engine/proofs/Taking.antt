@@ -58,8 +58,8 @@ module _ (k size : ℕ) (m : List ℕ) {x y : Line} (read : x ≡ y) where
   unfolding editLine
   edit-none e = rw (← read, e) refl
 
-  pub edit-made : (row f a b c n q : ℕ) {new : List ℕ} → x ≡ Edit row f a b c → n ≡ min size (length m)
-      → q ≡ editRefusal (take (n - 0) m) row f → new ≡ editOf (take (n - 0) m) row (entry f a b c)
+  pub edit-made : (row f a b c times n q : ℕ) {new : List ℕ} → x ≡ Edit row f a b c times → n ≡ min size (length m)
+      → q ≡ editRefusal (take (n - 0) m) row f → new ≡ editOf (take (n - 0) m) row (entry f a b c times)
       → held (between k size (not (eqb q 0))) (new ++ drop (n - 0) m) ≡ editLine k size m y
   unfolding editLine onPart
-  edit-made row f a b c n q e l eq en = rw (← read, e, eq, en) (rw (sub-zero n, part-taken m size n l, part-left m size n l) refl)
+  edit-made row f a b c times n q e l eq en = rw (← read, e, eq, en) (rw (sub-zero n, part-taken m size n l, part-left m size n l) refl)

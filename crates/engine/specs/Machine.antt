@@ -21,7 +21,7 @@ use Rattle.engine.specs.Run.{entry}
 
 -- the longest line that is no bad one for its length alone (line::LONGEST)
 abbrev pub longest : ℕ
-longest = 72
+longest = 83
 
 -- the state and the sheet's memory
 pub record Held : Type 0 where
@@ -60,8 +60,8 @@ countLine k m (Value r) =
 -- an edit, as line k
 unfoldable pub editLine : ℕ → ℕ → List ℕ → Line → Held
 editLine k n m Malformed = held (between k n true) m
-editLine k n m (Edit row function a b c) =
-    held (between k n (not (eqb (editRefusal (take n m) row function) 0))) (onPart n (λ s. editOf s row (entry function a b c)) m)
+editLine k n m (Edit row function a b c times) =
+    held (between k n (not (eqb (editRefusal (take n m) row function) 0))) (onPart n (λ s. editOf s row (entry function a b c times)) m)
 
 -- the number of the line that is being read; a run of fewer than 2 ^ 64 bytes never wraps it
 abbrev pub lineNumber : State → ℕ
@@ -85,7 +85,7 @@ endOf w =
 abbrev pub longerOf : State → State
 longerOf st = record { lines = st .lines; held = st .held + 1; size = st .size; bad = false }
 
--- another byte joins the line held; of a long line only its first 72 bytes are kept
+-- another byte joins the line held; of a long line only its first 83 bytes are kept
 unfoldable pub joinOf : Room → ℕ → Room
 joinOf w b =
     when ltb longest (w .st .held) gives w else

@@ -42,14 +42,14 @@ countOn (Value r) =
     Bad 1
 
 -- what an edit's line enters
-abbrev pub entry : ℕ → ℕ → ℕ → ℕ → Entry
-entry f a b c = record { function = f; a = a; b = b; c = c }
+abbrev pub entry : ℕ → ℕ → ℕ → ℕ → ℕ → Entry
+entry f a b c times = record { function = f; a = a; b = b; c = c; times = times }
 
 -- an edit of the sheet s, as line k: bad where it is malformed or the call is refused
 unfoldable pub editOn : ℕ → List ℕ → Line → Outcome
 editOn k s Malformed = Bad k
-editOn k s (Edit row function a b c) =
-    when eqb (editRefusal s row function) 0 gives Sheet (editOf s row (entry function a b c)) else
+editOn k s (Edit row function a b c times) =
+    when eqb (editRefusal s row function) 0 gives Sheet (editOf s row (entry function a b c times)) else
     Bad k
 
 -- one more line, as line k: the first is the row count, and after a bad one nothing more is read

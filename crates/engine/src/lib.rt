@@ -11,10 +11,10 @@ ghost use mathlib.Core.Path.{_≡_};
 ghost use Prim.Native.Nat.{_≤_};
 ghost use lib.ListN.{length};
 ghost use Rattle.page.specs.Page.{largest};
-ghost use Rattle.engine.specs.Machine.{longest, room, startOf, longerOf, stepOf, feedOf, finishOf, printOf};
+ghost use Rattle.engine.specs.Machine.{longest, room, startOf, longerOf, endOf, stepOf, feedOf, finishOf, printOf};
 ghost use Rattle.page.specs.Writing.{Put};
 
-// How many lines were taken, how many bytes of the next are held (73: too many), the sheet's bytes, and whether the last line was bad.
+// How many lines were taken, how many bytes of the next are held (84: too many), the sheet's bytes, and whether the last line was bad.
 pub struct State {
     pub lines: u64,
     pub held: usize,
@@ -28,7 +28,7 @@ pub fn start() -> State
     between(0, 0, false)
 }
 
-// One more byte of a line is held; the 73rd stands for all that follow.
+// One more byte of a line is held; the 84th stands for all that follow.
 fn longer(st: State) -> State
     requires { ⌜ st .held ≤ longest ⌝ }
     ensures { λ r. ⌜ r ≡ longerOf st ⌝ }
@@ -41,6 +41,19 @@ fn longer(st: State) -> State
     }
 }
 
+// A line end. The input's end is one too, and calls this itself: `step` is then called in one place, and becomes a part of the loop there.
+fn end_line(st: State, line: &[u8], sheet: &mut [u8]) -> State
+    requires { ⌜ (length (now line) ≡ longest) × (length (now sheet) ≡ largest) ⌝ }
+    ensures { λ r. ⌜ room r (now (line .entry)) (now (sheet .exit)) ≡ endOf (room st (now (line .entry)) (now (sheet .entry))) ⌝ }
+{
+    let at = st.held;
+    if LONGEST < at {
+        let k = std::num::wrapping_add_u64(st.lines, 1);
+        return between(k, st.size, true);
+    }
+    take_line(st, &line[0..at], sheet)
+}
+
 // One byte of the input.
 fn step(st: State, b: u8, line: &mut [u8], sheet: &mut [u8]) -> State
     requires { ⌜ (length (now line) ≡ longest) × (length (now sheet) ≡ largest) ⌝ }
@@ -49,14 +62,10 @@ fn step(st: State, b: u8, line: &mut [u8], sheet: &mut [u8]) -> State
     if st.bad {
         return st;
     }
-    let at = st.held;
     if b == 10 {
-        if LONGEST < at {
-            let k = std::num::wrapping_add_u64(st.lines, 1);
-            return between(k, st.size, true);
-        }
-        return take_line(st, &line[0..at], sheet);
+        return end_line(st, line, sheet);
     }
+    let at = st.held;
     if LONGEST < at {
         return st;
     }
@@ -80,14 +89,17 @@ fn steps(st: State, part: &[u8], line: &mut [u8], sheet: &mut [u8]) -> State
     now
 }
 
-fn last(st: State, line: &mut [u8], sheet: &mut [u8]) -> State
+fn last(st: State, line: &[u8], sheet: &mut [u8]) -> State
     requires { ⌜ (length (now line) ≡ longest) × (length (now sheet) ≡ largest) ⌝ }
-    ensures { λ r. ⌜ room r (now (line .exit)) (now (sheet .exit)) ≡ finishOf (room st (now (line .entry)) (now (sheet .entry))) ⌝ }
+    ensures { λ r. ⌜ room r (now (line .entry)) (now (sheet .exit)) ≡ finishOf (room st (now (line .entry)) (now (sheet .entry))) ⌝ }
 {
     if (st.held == 0) & (st.lines != 0) {
         return st;
     }
-    step(st, 10, line, sheet)
+    if st.bad {
+        return st;
+    }
+    end_line(st, line, sheet)
 }
 
 // A part of the input.

@@ -60,12 +60,23 @@ fn edit_line(k: u64, size: usize, s: &[u8], sheet: &mut [u8]) -> State
         a,
         b,
         c,
+        times,
     } = line::read_edit(s)
     else {
         return between(k, size, true);
     };
     let n = least(size, sheet.len());
-    let refusal = sheet::edit(&mut sheet[0..n], row, Entry { function, a, b, c });
+    let refusal = sheet::edit(
+        &mut sheet[0..n],
+        row,
+        Entry {
+            function,
+            a,
+            b,
+            c,
+            times,
+        },
+    );
     between(k, size, refusal != 0)
 }
 

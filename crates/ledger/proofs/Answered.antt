@@ -1,8 +1,8 @@
 -- What the public calls hand back, refused and not. Assumes nothing.
 use mathlib.Core.Path.{_≡_, ap, _∙_, sym}
-use mathlib.Core.Bool.{Bool, true, false}
-use mathlib.Core.List.{List, []}
-use Prim.Native.Nat.{ℕ, _<_, _≤_}
+use mathlib.Core.Bool.{true, false}
+use mathlib.Core.List.{List}
+use Prim.Native.Nat.{ℕ, _+_, _<_, _≤_}
 use native.Mathlib.Omega.{arith}
 use borrow.Author.Tests.{eq-eqb, ne-eqb, lt-ltb, le-ltb}
 use lib.Dec.{eqb}
@@ -10,9 +10,10 @@ use lib.ListN.{length, getD, replicate, List·getD-eq-default}
 use lib.Ieee.{Float}
 use Rattle.laws.specs.Arithmetic.{+0}
 use Rattle.total.specs.Total.{roundTotal}
-use Rattle.ledger.specs.Sheet.{Row, mostRows, sizeFor, classOf, sound, encode, blankRow}
-use Rattle.ledger.specs.Calls.{rowIn, countsIn, totalIn, isSheet, rowRefusal, totalRefusal, placeRefusal, blankRefusal, edited, placeOf, blankOf, readOf, soundRow, classIn, totalOf, countOf}
-use Rattle.ledger.specs.laws.Refusals.{length-counts}
+use Rattle.ledger.specs.Sheet.{Row, rowPlace, mostRows, sizeFor, encode, blankRow}
+use Rattle.ledger.specs.Calls.{rowsIn, rowIn, countsIn, totalIn, isSheet, rowRefusal, totalRefusal, placeRefusal, blankRefusal, edited, placeOf, blankOf, totalOf, countOf}
+use Rattle.ledger.specs.laws.Refusals.{length-counts, readable, sheet-length}
+use Rattle.ledger.proofs.Places.{row-room, length-row}
 use Rattle.ledger.proofs.Tested.{total-7, total-0}
 
 -- ---- a row placed
@@ -25,31 +26,26 @@ module _ (s : List ℕ) (i : ℕ) (w : Row) (q : ℕ) (e : q ≡ placeRefusal s 
   unfolding placeOf
   place-stored h t d = rw (eq-eqb (placeRefusal s i w) 0 (sym e ∙ h)) d
 
--- ---- a row read
+-- ---- a row read: what the calls on a row's own bytes need, and what decides between the two things that they hand back
 module _ (s : List ℕ) (i q : ℕ) (e : q ≡ rowRefusal s i) where
-  pub read-refused : (q ≡ 0 → ⊥) → [] ≡ readOf s i
-  unfolding readOf
-  read-refused h = rw (ne-eqb (rowRefusal s i) 0 (λ z. h (e ∙ z)))
+  pub unreadable : (q ≡ 0 → ⊥) → eqb (rowRefusal s i) 0 ≡ false
+  unreadable h = ne-eqb (rowRefusal s i) 0 (λ z. h (e ∙ z))
 
-  pub read-given : q ≡ 0 → (w : List ℕ) → w ≡ rowIn s i → w ≡ readOf s i
-  unfolding readOf
-  read-given h w d = rw (eq-eqb (rowRefusal s i) 0 (sym e ∙ h)) d
+  module _ (h : q ≡ 0) where
+    can : (isSheet s ≡ true) × (i < rowsIn s)
+    can = readable s i (sym e ∙ h)
 
-  pub sound-refused : (q ≡ 0 → ⊥) → false ≡ soundRow s i
-  unfolding soundRow
-  sound-refused h = rw (ne-eqb (rowRefusal s i) 0 (λ z. h (e ∙ z)))
+    pub row-read : eqb (rowRefusal s i) 0 ≡ true
+    row-read = eq-eqb (rowRefusal s i) 0 (sym e ∙ h)
 
-  pub sound-given : q ≡ 0 → (t : Bool) → t ≡ sound (rowIn s i) → t ≡ soundRow s i
-  unfolding soundRow
-  sound-given h t d = rw (eq-eqb (rowRefusal s i) 0 (sym e ∙ h)) d
+    pub read-sheet : isSheet s ≡ true
+    read-sheet = can .0
 
-  pub class-refused : (q ≡ 0 → ⊥) → 5 ≡ classIn s i
-  unfolding classIn
-  class-refused h = rw (ne-eqb (rowRefusal s i) 0 (λ z. h (e ∙ z)))
+    pub read-room : rowPlace i + 48 ≤ length s
+    read-room = row-room s (sheet-length s (can .0)) i (can .1)
 
-  pub class-given : q ≡ 0 → (k : ℕ) → k ≡ classOf (rowIn s i) → k ≡ classIn s i
-  unfolding classIn
-  class-given h k d = rw (eq-eqb (rowRefusal s i) 0 (sym e ∙ h)) d
+    pub read-length : (w : Row) → w ≡ rowIn s i → length w ≡ 48
+    read-length w d = ap length d ∙ length-row s (sheet-length s (can .0)) i (can .1)
 
 -- ---- the total and the counts
 module _ (s : List ℕ) where

@@ -1,7 +1,7 @@
 -- Zeros, with the contents and one count written, are the sheet of blank rows. Assumes nothing.
 use mathlib.Core.Path.{_≡_, refl, ap, _∙_}
 use mathlib.Core.List.{List, [], _∷_, _++_, append-assoc}
-use Prim.Native.Nat.{ℕ, zero, suc, _+_, _-_, _*_}
+use Prim.Native.Nat.{ℕ, zero, suc, _+_, _*_}
 use native.Mathlib.Nat.{zero-mod, add-assoc}
 use native.Mathlib.Omega.{arith}
 use borrow.Author.Tests.{ne-eqb}
@@ -9,8 +9,8 @@ use lib.ListN.{length, take, drop, replicate, length-replicate, replicate-append
 use lib.Seq.{take-at, drop-at}
 use lib.Ieee.{ofBits}
 use Rattle.total.specs.Total.{N, complement, negative, sizeOf}
-use Rattle.ledger.specs.Bytes.{bytes, fields, splice}
-use Rattle.ledger.specs.Sheet.{Row, rowPlace, sizeFor, entries, blankRow, functionIn, classOf, valueOf, sizeIn, unitsIn, totals, count, counts, sum, flat, encode}
+use Rattle.ledger.specs.Bytes.{bytes, number, fields, splice}
+use Rattle.ledger.specs.Sheet.{Row, withTimes, rowPlace, sizeFor, entries, blankRow, functionIn, timesIn, classOf, valueOf, sizeIn, unitsIn, totals, count, counts, sum, flat, encode}
 use Rattle.ledger.specs.laws.Fields.{take-past, drop-past, length-bytes, length-fields}
 
 class-blank : classOf blankRow ≡ 0
@@ -18,7 +18,7 @@ unfolding classOf functionIn
 class-blank = refl
 
 units-blank : unitsIn blankRow ≡ 0
-unfolding unitsIn sizeIn valueOf classOf functionIn ofBits complement negative sizeOf N
+unfolding unitsIn sizeIn timesIn number valueOf classOf functionIn ofBits complement negative sizeOf N
 units-blank = refl
 
 flat-blank : (r : ℕ) → flat (replicate r blankRow) ≡ replicate (48 * r) 0
@@ -48,18 +48,18 @@ totals-blank : (r : ℕ) → bytes 4 r ++ replicate 292 0 ≡ totals (r ∷ 0 �
 unfolding totals fields bytes
 totals-blank r = refl
 
-pub eight : (r : ℕ) → length (entries r) ≡ 8
+pub eight : (r : ℕ) → length (entries withTimes r) ≡ 8
 unfolding entries
 eight r = refl
 
-pub made : (r : ℕ) (e : List ℕ) → e ≡ entries r
+pub made : (r : ℕ) (e : List ℕ) → e ≡ entries withTimes r
     → splice (splice (replicate (sizeFor r) 0) 0 (fields 4 e)) (rowPlace r) (bytes 4 r) ≡ encode (replicate r blankRow)
 unfolding encode
 made r e d =
-    let H = fields 4 (entries r) in
+    let H = fields 4 (entries withTimes r) in
     let Z : List ℕ = replicate (48 * r) 0 in
     let E : List ℕ = replicate 296 0 in
-    let lh : length H ≡ 32 = length-fields 4 (entries r) ∙ ap (λ (n : ℕ). 4 * n) (eight r) in
+    let lh : length H ≡ 32 = length-fields 4 (entries withTimes r) ∙ ap (λ (n : ℕ). 4 * n) (eight r) in
     let lz : length Z ≡ 48 * r = length-replicate (48 * r) 0 in
     let a : replicate (sizeFor r) 0 ≡ replicate 32 0 ++ (Z ++ E) =
     rw (replicate-append-replicate {A = ℕ} (48 * r) 296 0, replicate-append-replicate {A = ℕ} 32 (48 * r + 296) 0, let h : sizeFor r ≡ 32 + (48 * r + 296) = omega arith in h) in

@@ -7,7 +7,8 @@ use lib.Ieee.{Float, nan, inf, fin, eq, ne, isNan, ofBits}
 use Rattle.laws.specs.Arithmetic.{+0, +∞, -∞}
 use Rattle.laws.specs.laws.Kinds.{nan-of}
 use Rattle.answer.specs.Numbers.{last, stored}
-use Rattle.ledger.specs.Sheet.{Row, functionIn, refusalIn, firstIn, soundOf, kindOf, classOf, valueOf}
+use Rattle.ledger.specs.Sheet.{Row, functionIn, refusalIn, timesIn, firstIn, soundOf, kindOf, classOf, valueOf}
+use Rattle.ledger.specs.Calls.{Shared}
 
 -- ---- the kind of a value
 pub kind-nan : (x : Float) → ne x x ≡ true → 5 ≡ kindOf x
@@ -44,31 +45,28 @@ eq-self (fin true m e) = rw (eq-eqb _ _ refl)
 eq-self (fin false m e) = rw (eq-eqb _ _ refl)
 
 -- ---- a row's share
-abbrev pub Shared : Row → ℕ → Float → Type 0
-Shared w k x = (k ≡ classOf w) × (x ≡ valueOf w)
-
-module _ (w : Row) where
-  pub share-blank : functionIn w ≡ 0 → Shared w 0 +0
+module _ (w : Row) (t : ℕ) (f : t ≡ timesIn w) where
+  pub share-blank : functionIn w ≡ 0 → Shared w 0 +0 t
   unfolding classOf valueOf
-  share-blank h = (rw (eq-eqb _ _ h), rw (eq-eqb _ _ h))
+  share-blank h = (rw (eq-eqb _ _ h), rw (eq-eqb _ _ h), f)
 
   module _ (h : functionIn w ≡ 0 → ⊥) where
-    pub share-refused : 0 < refusalIn w → Shared w 4 +0
+    pub share-refused : 0 < refusalIn w → Shared w 4 +0 t
     unfolding classOf valueOf
-    share-refused g = (rw (ne-eqb _ _ h, lt-ltb _ _ g), rw (ne-eqb _ _ h, lt-ltb _ _ g))
+    share-refused g = (rw (ne-eqb _ _ h, lt-ltb _ _ g), rw (ne-eqb _ _ h, lt-ltb _ _ g), f)
 
     module _ (g : refusalIn w ≤ 0) (x : Float) (k : ℕ) (e : x ≡ firstIn w) (d : k ≡ kindOf x) where
       class-kind : k ≡ classOf w
       unfolding classOf
       class-kind = rw (ne-eqb _ _ h, le-ltb _ _ g) (d ∙ ap kindOf e)
 
-      pub share-finite : k ≡ 1 → Shared w 1 x
+      pub share-finite : k ≡ 1 → Shared w 1 x t
       unfolding valueOf
-      share-finite o = (sym o ∙ class-kind, rw (eq-eqb (classOf w) 1 (sym class-kind ∙ o)) e)
+      share-finite o = (sym o ∙ class-kind, rw (eq-eqb (classOf w) 1 (sym class-kind ∙ o)) e, f)
 
-      pub share-none : (k ≡ 1 → ⊥) → Shared w k +0
+      pub share-none : (k ≡ 1 → ⊥) → Shared w k +0 t
       unfolding valueOf
-      share-none n = (class-kind, rw (ne-eqb (classOf w) 1 (λ z. n (class-kind ∙ z))))
+      share-none n = (class-kind, rw (ne-eqb (classOf w) 1 (λ z. n (class-kind ∙ z))), f)
 
 -- ---- the row tests, one by one
 module _ (f q : ℕ) (x : Float) where

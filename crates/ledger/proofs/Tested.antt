@@ -1,30 +1,46 @@
 -- The refusals, test by test. Assumes nothing.
-use mathlib.Core.Path.{_≡_, refl}
-use mathlib.Core.Bool.{Bool, true, false, cond, not}
+use mathlib.Core.Path.{_≡_, refl, ap}
+use mathlib.Core.Bool.{Bool, true, false, cond, not, _||_, false≢true}
 use mathlib.Core.List.{List}
 use Prim.Native.Nat.{ℕ, _≤_, _<_}
 use borrow.Author.Tests.{eq-eqb, ne-eqb, le-leb, lt-leb, lt-ltb, le-ltb}
 use lib.Dec.{leb, eqb}
-use lib.ListN.{length, getD}
+use lib.ListN.{length, take, getD}
 use Rattle.answer.specs.Numbers.{last}
-use Rattle.ledger.specs.Bytes.{read}
-use Rattle.ledger.specs.Sheet.{Row, mostRows, sizeFor, entries, functionIn, classOf, sound}
-use Rattle.ledger.specs.Calls.{Sized, rowsIn, rowIn, countsIn, equal, isSheet, plus, miscounted, damaged, rungs, totalRefusal, rowRefusal, placeRefusal}
+use Rattle.ledger.specs.Bytes.{number, read}
+use Rattle.ledger.specs.Sheet.{Row, withoutTimes, withTimes, mostRows, sizeFor, entries, functionIn, classOf, sound}
+use Rattle.ledger.specs.Calls.{Sized, rowsIn, rowIn, countsIn, equal, isSheetOf, isSheet, plus, miscounted, damaged, rowRungs, rungs, totalRefusal, placeRefusal}
+use Rattle.ledger.specs.laws.Refusals.{says}
 
--- ---- a sheet
-module _ (s : List ℕ) where
-  pub too-many : mostRows < rowsIn s → false ≡ isSheet s
-  unfolding isSheet
+-- ---- a sheet that says k
+module _ (k : ℕ) (s : List ℕ) where
+  pub too-many : mostRows < rowsIn s → false ≡ isSheetOf k s
+  unfolding isSheetOf
   too-many g = rw (lt-leb (rowsIn s) mostRows g)
 
   module _ (g : rowsIn s ≤ mostRows) where
-    pub odd-length : (length s ≡ sizeFor (rowsIn s) → ⊥) → false ≡ isSheet s
-    unfolding isSheet
+    pub odd-length : (length s ≡ sizeFor (rowsIn s) → ⊥) → false ≡ isSheetOf k s
+    unfolding isSheetOf
     odd-length h = rw (le-leb (rowsIn s) mostRows g, ne-eqb (length s) (sizeFor (rowsIn s)) h)
 
-    pub by-contents : Sized s → equal (read 4 8 s) (entries (rowsIn s)) ≡ isSheet s
-    unfolding isSheet
+    pub by-contents : Sized s → equal (read 4 8 s) (entries k (rowsIn s)) ≡ isSheetOf k s
+    unfolding isSheetOf
     by-contents h = rw (le-leb (rowsIn s) mostRows g, eq-eqb (length s) (sizeFor (rowsIn s)) h)
+
+-- ---- a sheet of either kind
+module _ (s : List ℕ) where
+  pub not-the-first : isSheetOf withTimes s ≡ false → isSheetOf withoutTimes s ≡ isSheet s
+  unfolding isSheet
+  not-the-first h = rw h
+
+  pub by-first-word : isSheet s ≡ true → eqb (number (take 4 s)) withTimes ≡ isSheetOf withTimes s
+  unfolding isSheet
+  by-first-word h = go (isSheetOf withTimes s) (isSheetOf withoutTimes s) refl refl h
+    where
+      go : (p q : Bool) → isSheetOf withTimes s ≡ p → isSheetOf withoutTimes s ≡ q → (p || q) ≡ true → eqb (number (take 4 s)) withTimes ≡ p
+      go true q x y z = eq-eqb _ _ (says withTimes s x)
+      go false true x y z = ap (λ (n : ℕ). eqb n withTimes) (says withoutTimes s y)
+      go false false x y z = absurd (false≢true z)
 
 -- ---- damage
 module _ (s : List ℕ) (i : ℕ) where
@@ -54,31 +70,28 @@ module _ (s : List ℕ) where
   unfolding totalRefusal
   total-0 h = rw h
 
-module _ (s : List ℕ) (i : ℕ) where
-  pub row-7 : isSheet s ≡ false → 7 ≡ rowRefusal s i
-  unfolding rowRefusal
+module _ (taken : Bool) (r i : ℕ) where
+  pub row-7 : taken ≡ false → 7 ≡ rowRungs taken r i
   row-7 h = rw h
 
-  module _ (h : isSheet s ≡ true) where
-    pub row-8 : rowsIn s ≤ i → 8 ≡ rowRefusal s i
-    unfolding rowRefusal
+  module _ (h : taken ≡ true) where
+    pub row-8 : r ≤ i → 8 ≡ rowRungs taken r i
     row-8 g = rw (h, le-leb _ _ g)
 
-    pub row-0 : i < rowsIn s → 0 ≡ rowRefusal s i
-    unfolding rowRefusal
+    pub row-0 : i < r → 0 ≡ rowRungs taken r i
     row-0 g = rw (h, lt-leb _ _ g)
 
 module _ (s : List ℕ) (i : ℕ) (w : Row) where
-  pub place-row : (rowRefusal s i ≡ 0 → ⊥) → rowRefusal s i ≡ placeRefusal s i w
-  unfolding rowRefusal placeRefusal rungs
-  place-row h = go (isSheet s) (leb (rowsIn s) i) _ h
+  pub place-row : let q = rowRungs (isSheetOf withTimes s) (rowsIn s) i in (q ≡ 0 → ⊥) → q ≡ placeRefusal s i w
+  unfolding placeRefusal rungs
+  place-row h = go (isSheetOf withTimes s) (leb (rowsIn s) i) _ h
     where
       go : (p q : Bool) (rest : ℕ) → (_≡_ {A = ℕ} (cond (not p) 7 (cond q 8 0)) 0 → ⊥) → _≡_ {A = ℕ} (cond (not p) 7 (cond q 8 0)) (cond (not p) 7 (cond q 8 rest))
       go true true rest h = refl
       go true false rest h = absurd (h refl)
       go false q rest h = refl
 
-  module _ (h : isSheet s ≡ true) (g : i < rowsIn s) where
+  module _ (h : isSheetOf withTimes s ≡ true) (g : i < rowsIn s) where
     pub place-9 : last < functionIn w → 9 ≡ placeRefusal s i w
     unfolding placeRefusal rungs
     place-9 k = rw (h, lt-leb _ _ g, lt-ltb _ _ k)

@@ -13,6 +13,10 @@ use Rattle.ledger.specs.Bytes.{bytes, number, fields, splice}
 use Rattle.ledger.specs.laws.Fields.{drop-past, length-bytes, length-fields, fields-append}
 
 -- ---- reads
+pub number-two : (l : List ℕ) (at : ℕ) → at + 2 ≤ length l → number (take 2 (drop at l)) ≡ getD l at 0 + 256 * getD l (at + 1) 0
+unfolding number
+number-two l at h = rw (drop-cons l at 0 (omega arith), drop-cons l (suc at) 0 (omega arith), add-one) (omega arith)
+
 four : (l : List ℕ) (at : ℕ) → at + 4 ≤ length l → take 4 (drop at l) ≡ getD l at 0 ∷ getD l (at + 1) 0 ∷ getD l (at + 2) 0 ∷ getD l (at + 3) 0 ∷ []
 four l at h =
     rw (drop-cons l at 0 (omega arith), drop-cons l (suc at) 0 (omega arith), drop-cons l (suc (suc at)) 0 (omega arith), drop-cons l (suc (suc (suc at))) 0 (omega arith), add-one, add-two, add-three)

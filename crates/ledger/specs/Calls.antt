@@ -11,7 +11,7 @@ use Rattle.laws.specs.Ladder.{when_gives_else_}
 use Rattle.answer.specs.Numbers.{last}
 use Rattle.total.specs.Total.{roundTotal}
 use Rattle.ledger.specs.Bytes.{number, read, splice}
-use Rattle.ledger.specs.Sheet.{Row, entries, sizeFor, mostRows, rowPlace, blankRow, functionIn, noClass, classOf, sound, retotal, totals, encode}
+use Rattle.ledger.specs.Sheet.{Row, withoutTimes, withTimes, entries, sizeFor, mostRows, rowPlace, blankRow, functionIn, timesIn, noClass, classOf, valueOf, sound, retotal, totals, encode}
 
 -- ---- what stands in bytes that may be a sheet
 
@@ -47,9 +47,13 @@ plus (x ∷ xs) = x + plus xs
 
 -- ---- refusals; 0: none
 
--- refusal 7: length or contents are not those of a sheet
+-- length and contents are those of a sheet whose first word is k
+unfoldable pub isSheetOf : ℕ → List ℕ → Bool
+isSheetOf k s = leb (rowsIn s) mostRows && (eqb (length s) (sizeFor (rowsIn s)) && equal (read 4 8 s) (entries k (rowsIn s)))
+
+-- refusal 7, for what only reads: not a sheet, whether its rows keep times or not
 unfoldable pub isSheet : List ℕ → Bool
-isSheet s = leb (rowsIn s) mostRows && (eqb (length s) (sizeFor (rowsIn s)) && equal (read 4 8 s) (entries (rowsIn s)))
+isSheet s = isSheetOf withTimes s || isSheetOf withoutTimes s
 
 -- refusal 10's count tests: the counts do not add up, or that of the row's class is 0
 unfoldable pub miscounted : List ℕ → ℕ → Bool
@@ -72,17 +76,21 @@ totalRefusal s =
     when not (isSheet s) gives 7 else
     0
 
--- "A row read: 7, 8."
-unfoldable pub rowRefusal : List ℕ → ℕ → ℕ
-rowRefusal s i =
-    when not (isSheet s) gives 7 else
-    when leb (rowsIn s) i gives 8 else
+-- what a row read asks, and an edit first: whether the call takes the bytes for a sheet, and whether its rows go beyond i
+abbrev pub rowRungs : Bool → ℕ → ℕ → ℕ
+rowRungs taken rows i =
+    when not taken gives 7 else
+    when leb rows i gives 8 else
     0
 
--- row w in place of row i: 10 also where w is no row that an edit stores
+-- "A row read: 7, 8."
+unfoldable pub rowRefusal : List ℕ → ℕ → ℕ
+rowRefusal s i = rowRungs (isSheet s) (rowsIn s) i
+
+-- row w in place of row i: 7 also for a sheet without times, which is only read; 10 also where w is no row that an edit stores
 unfoldable pub placeRefusal : List ℕ → ℕ → Row → ℕ
 placeRefusal s i w =
-    when not (isSheet s) gives 7 else
+    when not (isSheetOf withTimes s) gives 7 else
     rungs (rowsIn s) i (functionIn w) (when not (sound w) || damaged s i gives 10 else 0)
 
 -- "make blank (11, then 7 for the length)"
@@ -97,6 +105,10 @@ blankRefusal s r =
 -- a sheet of blank rows; a refused call changes no byte
 unfoldable pub blankOf : List ℕ → ℕ → List ℕ
 blankOf s r = when eqb (blankRefusal s r) 0 gives encode (replicate r blankRow) else s
+
+-- a row's share of the totals: its class, its value k times over
+abbrev pub Shared : Row → ℕ → Float → ℕ → Type 0
+Shared w class x k = (class ≡ classOf w) × (x ≡ valueOf w) × (k ≡ timesIn w)
 
 -- one less of the old class, one more of the new
 unfoldable pub recount : List ℕ → ℕ → ℕ → List ℕ
@@ -125,6 +137,14 @@ soundRow s i = when eqb (rowRefusal s i) 0 gives sound (rowIn s i) else false
 -- the row's class; none where it can't be read
 unfoldable pub classIn : List ℕ → ℕ → ℕ
 classIn s i = when eqb (rowRefusal s i) 0 gives classOf (rowIn s i) else noClass
+
+-- how often the row was driven: in a sheet without times once, and a blank row never; 0 where it can't be read
+unfoldable pub timesOf : List ℕ → ℕ → ℕ
+timesOf s i =
+    when not (eqb (rowRefusal s i) 0) gives 0 else
+    when isSheetOf withTimes s gives timesIn (rowIn s i) else
+    when eqb (functionIn (rowIn s i)) 0 gives 0 else
+    1
 
 -- the total rounded once; +0 where it is refused
 unfoldable pub totalOf : List ℕ → Float

@@ -27,30 +27,40 @@ sizeFor r = 328 + 48 * r
 
 -- ---- contents: two entries of four u32, for the rows and for the totals
 
--- kind, place, length, how many
-unfoldable pub entries : ℕ → List ℕ
-entries r = 1 ∷ 32 ∷ 48 * r ∷ r ∷ 2 ∷ rowPlace r ∷ 296 ∷ 1 ∷ []
+-- what the first word says of the rows: 1, as sheets were before they kept times; 3, they keep them (02, [8])
+abbrev pub withoutTimes : ℕ
+withoutTimes = 1
 
--- ---- a row: function, refusal number, six zeros; then three arguments and two answers, as bit patterns
+abbrev pub withTimes : ℕ
+withTimes = 3
+
+-- what the rows are, place, length, how many; and the same of the totals
+unfoldable pub entries : ℕ → ℕ → List ℕ
+entries k r = k ∷ 32 ∷ 48 * r ∷ r ∷ 2 ∷ rowPlace r ∷ 296 ∷ 1 ∷ []
+
+-- ---- a row: function, refusal number, times in two bytes, four zeros; then three arguments and two answers, as bit patterns
 
 -- its 48 bytes
 abbrev pub Row : Type 0
 Row = List ℕ
 
--- function f, refusal q, and the five patterns xs
-unfoldable pub rowBytes : ℕ → ℕ → List ℕ → Row
-rowBytes f q xs = (f ∷ q ∷ replicate 6 0) ++ fields 8 xs
+-- function f, refusal q, times k, and the five patterns xs
+unfoldable pub rowBytes : ℕ → ℕ → ℕ → List ℕ → Row
+rowBytes f q k xs = (f ∷ q ∷ bytes 2 k) ++ (replicate 4 0 ++ fields 8 xs)
 
 -- a row of function 0
 abbrev pub blankRow : Row
 blankRow = replicate 48 0
 
--- what a row's bytes say: its function, refusal number and first answer
+-- what a row's bytes say: its function, refusal number, how often it was driven, and first answer
 unfoldable pub functionIn : Row → ℕ
 functionIn w = getD w 0 0
 
 unfoldable pub refusalIn : Row → ℕ
 refusalIn w = getD w 1 0
+
+unfoldable pub timesIn : Row → ℕ
+timesIn w = number (take 2 (drop 2 w))
 
 unfoldable pub firstIn : Row → Float
 firstIn w = float (number (take 8 (drop 32 w)))
@@ -97,9 +107,9 @@ classOf w =
     when ltb 0 (refusalIn w) gives refusedClass else
     kindOf (firstIn w)
 
--- ---- a row's weight in the total
+-- ---- a row's weight in the total: its times multiplied by its first answer, where that is finite
 
--- its first answer where that is finite
+-- the first answer, and +0 where it is not finite
 unfoldable pub valueOf : Row → Float
 valueOf w = cond (eqb (classOf w) finiteClass) (firstIn w) +0
 
@@ -108,7 +118,7 @@ abbrev pub negativeIn : Row → Bool
 negativeIn w = negative (valueOf w)
 
 unfoldable pub sizeIn : Row → ℕ
-sizeIn w = sizeOf (valueOf w)
+sizeIn w = timesIn w * sizeOf (valueOf w)
 
 -- what it brings, modulo N in two's complement
 unfoldable pub unitsIn : Row → ℕ
@@ -146,4 +156,4 @@ flat (w ∷ ws) = w ++ flat ws
 
 -- contents, rows, totals
 unfoldable pub encode : List Row → List ℕ
-encode ws = fields 4 (entries (length ws)) ++ (flat ws ++ totals (counts ws) (sum ws % N))
+encode ws = fields 4 (entries withTimes (length ws)) ++ (flat ws ++ totals (counts ws) (sum ws % N))

@@ -35,6 +35,13 @@ pub(crate) fn pair(low: u32, high: u32) -> u64
     wider(low) + 4294967296 * wider(high)
 }
 
+pub(crate) fn get_u16(s: &[u8], at: usize) -> u16
+    requires { ⌜ at + 2 ≤ length (now s) ⌝ }
+    ensures { λ r. ⌜ r ≡ number (take 2 (drop at (now (s .entry)))) ⌝ }
+{
+    (wide(s[at]) + 256 * wide(s[at + 1])) as u16
+}
+
 pub(crate) fn get_u32(s: &[u8], at: usize) -> u32
     requires { ⌜ at + 4 ≤ length (now s) ⌝ }
     ensures { λ r. ⌜ r ≡ number (take 4 (drop at (now (s .entry)))) ⌝ }

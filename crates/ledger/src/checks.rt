@@ -17,16 +17,16 @@ ghost use mathlib.Core.Bool.{true};
 ghost use Prim.Native.Nat.{_+_, _*_, _≤_, _<_};
 ghost use lib.ListN.{length};
 ghost use Rattle.ledger.specs.Bytes.{read, fields};
-ghost use Rattle.ledger.specs.Sheet.{mostRows, entries, sound};
-ghost use Rattle.ledger.specs.Calls.{Sized, rowsIn, rowIn, equal, isSheet, miscounted, damaged, rowRefusal, placeRefusal};
+ghost use Rattle.ledger.specs.Sheet.{withTimes, mostRows, entries, sound};
+ghost use Rattle.ledger.specs.Calls.{Sized, rowsIn, rowIn, equal, isSheetOf, isSheet, miscounted, damaged, rowRungs, rowRefusal, placeRefusal};
 
-// Kind, place, length and how many, of the rows and of the totals.
-pub(crate) fn contents(rows: u32) -> [u32; 8]
+// Kind, place, length and how many, of the rows and of the totals. The rows' kind is 3 where they keep times, 1 where they do not.
+pub(crate) fn contents(kind: u32, rows: u32) -> [u32; 8]
     requires { ⌜ rows ≤ mostRows ⌝ }
-    ensures { λ r. ⌜ r ≡ entries rows ⌝ }
+    ensures { λ r. ⌜ r ≡ entries kind rows ⌝ }
 {
     let end = row_place(rows) as u32;
-    [1, 32, 48 * rows, rows, 2, end, 296, 1]
+    [kind, 32, 48 * rows, rows, 2, end, 296, 1]
 }
 
 fn starts_with(s: &[u8], words: [u32; 8]) -> bool
@@ -43,8 +43,9 @@ fn starts_with(s: &[u8], words: [u32; 8]) -> bool
     true
 }
 
-pub(crate) fn is_sheet(s: &[u8]) -> bool
-    ensures { λ r. ⌜ r ≡ isSheet (now (s .entry)) ⌝ }
+// Whether the bytes are a sheet whose rows are of this kind.
+fn is_sheet_of(s: &[u8], kind: u32) -> bool
+    ensures { λ r. ⌜ r ≡ isSheetOf kind (now (s .entry)) ⌝ }
 {
     let rows = rows_in(s);
     if rows > MOST_ROWS {
@@ -53,7 +54,24 @@ pub(crate) fn is_sheet(s: &[u8]) -> bool
     if s.len() != size_for(rows as u32) {
         return false;
     }
-    starts_with(s, contents(rows as u32))
+    starts_with(s, contents(kind, rows as u32))
+}
+
+pub(crate) fn is_sheet(s: &[u8]) -> bool
+    ensures { λ r. ⌜ r ≡ isSheet (now (s .entry)) ⌝ }
+{
+    if is_sheet_of(s, 3) {
+        return true;
+    }
+    is_sheet_of(s, 1)
+}
+
+// Whether a sheet's rows keep times: its first word decides.
+pub(crate) fn keeps_times(s: &[u8]) -> bool
+    requires { ⌜ isSheet (now s) ≡ true ⌝ }
+    ensures { λ r. ⌜ r ≡ isSheetOf withTimes (now (s .entry)) ⌝ }
+{
+    get_u32(s, 0) == 3
 }
 
 // Whether the counts do not add up, or that of a sound row's class is 0.
@@ -80,10 +98,11 @@ fn is_damaged(s: &[u8], row: u32) -> bool
     is_miscounted(s, row)
 }
 
-pub(crate) fn refusal_of_row(s: &[u8], row: u32) -> u8
-    ensures { λ r. ⌜ r ≡ rowRefusal (now (s .entry)) row ⌝ }
+// `taken`: the bytes are a sheet, for the call that asks.
+fn refusal_in(s: &[u8], row: u32, taken: bool) -> u8
+    ensures { λ r. ⌜ r ≡ rowRungs taken (rowsIn (now (s .entry))) row ⌝ }
 {
-    if !is_sheet(s) {
+    if !taken {
         return 7;
     }
     if row as usize >= rows_in(s) {
@@ -92,10 +111,17 @@ pub(crate) fn refusal_of_row(s: &[u8], row: u32) -> u8
     0
 }
 
+pub(crate) fn refusal_of_row(s: &[u8], row: u32) -> u8
+    ensures { λ r. ⌜ r ≡ rowRefusal (now (s .entry)) row ⌝ }
+{
+    refusal_in(s, row, is_sheet(s))
+}
+
+// A sheet without times is only read.
 pub(crate) fn refusal_of_place(s: &[u8], row: u32, words: [u64; 6]) -> u8
     ensures { λ r. ⌜ r ≡ placeRefusal (now (s .entry)) row (fields 8 words) ⌝ }
 {
-    let refusal = refusal_of_row(s, row);
+    let refusal = refusal_in(s, row, is_sheet_of(s, 3));
     if refusal != 0 {
         return refusal;
     }

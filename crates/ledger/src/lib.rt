@@ -6,8 +6,10 @@ use bytes::put_words;
 use bytes::put_zeros;
 use checks::contents;
 use checks::is_sheet;
+use checks::keeps_times;
 use checks::refusal_of_place;
 use checks::refusal_of_row;
+use row::driven;
 use row::is_sound;
 use row::put_row;
 use row::row_part;
@@ -22,7 +24,7 @@ ghost use Prim.Native.Nat.{_+_, _*_, _≤_, _<_};
 ghost use lib.ListN.{length};
 ghost use Rattle.ledger.specs.Bytes.{fields};
 ghost use Rattle.ledger.specs.Sheet.{mostRows, sizeFor, rowPlace, classOf};
-ghost use Rattle.ledger.specs.Calls.{Sized, rowsIn, blankRefusal, blankOf, damaged, edited, placeRefusal, placeOf, rowRefusal, readOf, soundRow, classIn, totalRefusal, totalOf, countOf};
+ghost use Rattle.ledger.specs.Calls.{Sized, rowsIn, blankRefusal, blankOf, damaged, edited, placeRefusal, placeOf, rowRefusal, readOf, soundRow, classIn, timesOf, totalRefusal, totalOf, countOf};
 
 mod bytes;
 mod checks;
@@ -68,7 +70,7 @@ fn paired(xs: [u32; 8]) -> [u64; 4]
     ]
 }
 
-// A blank sheet of so many rows: 11 more than 1,024, 7 another length, 0 made.
+// A blank sheet of so many rows, which keep times: 11 more than 1,024, 7 another length, 0 made.
 pub fn make_blank(sheet: &mut [u8], rows: u32) -> u8
     ensures { λ r. ⌜ (r ≡ blankRefusal (now (sheet .entry)) rows) × (now (sheet .exit) ≡ blankOf (now (sheet .entry)) rows) ⌝ }
 {
@@ -79,7 +81,7 @@ pub fn make_blank(sheet: &mut [u8], rows: u32) -> u8
         return 7;
     }
     put_zeros(sheet);
-    put_words(&mut sheet[0..32], &paired(contents(rows)));
+    put_words(&mut sheet[0..32], &paired(contents(3, rows)));
     put_u32(sheet, row_place(rows), rows);
     0
 }
@@ -95,7 +97,7 @@ fn store(sheet: &mut [u8], row: u32, words: [u64; 6])
     revise(sheet, old, new);
 }
 
-// A row of these words in place of another: 7, 8, 9 (their function), 10 (the old row or the counts damaged, or the new row not one that an edit stores), or 0, stored.
+// A row of these words in place of another: 7 (no sheet, or one without times), 8, 9 (their function), 10 (the old row or the counts damaged, or the new row not one that an edit stores), or 0, stored.
 pub fn place(sheet: &mut [u8], row: u32, words: [u64; 6]) -> u8
     ensures { λ r. ⌜ (r ≡ placeRefusal (now (sheet .entry)) row (fields 8 words)) × (now (sheet .exit) ≡ placeOf (now (sheet .entry)) row (fields 8 words)) ⌝ }
 {
@@ -142,6 +144,16 @@ pub fn row_class(sheet: &[u8], row: u32) -> usize
         return 5;
     }
     share_of(row_part(sheet, row)).class
+}
+
+// How often the row was driven: once in a sheet that keeps no times, where a blank row never was; 0 where it can't be read.
+pub fn row_times(sheet: &[u8], row: u32) -> u16
+    ensures { λ r. ⌜ r ≡ timesOf (now (sheet .entry)) row ⌝ }
+{
+    if refusal_of_row(sheet, row) != 0 {
+        return 0;
+    }
+    driven(row_part(sheet, row), keeps_times(sheet))
 }
 
 // The total rounded once to f64, and +0 where `total_refusal` is not 0.

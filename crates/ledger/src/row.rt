@@ -1,4 +1,5 @@
 // A row: its part of the sheet, and what its 48 bytes say.
+use super::bytes::get_u16;
 use super::bytes::get_u64;
 use super::bytes::put_words;
 use crate::row_place;
@@ -6,9 +7,11 @@ use answer::LAST;
 ghost use mathlib.Core.Path.{_≡_};
 ghost use Prim.Native.Nat.{_+_, _≤_};
 ghost use lib.ListN.{length};
+ghost use lib.Dec.{eqb};
+ghost use Rattle.laws.specs.Ladder.{when_gives_else_};
 ghost use Rattle.ledger.specs.Bytes.{fields, splice};
-ghost use Rattle.ledger.specs.Calls.{rowIn};
-ghost use Rattle.ledger.specs.Sheet.{rowPlace, functionIn, refusalIn, firstIn, kindOf, classOf, valueOf, soundOf, sound};
+ghost use Rattle.ledger.specs.Calls.{rowIn, Shared};
+ghost use Rattle.ledger.specs.Sheet.{rowPlace, functionIn, refusalIn, timesIn, firstIn, kindOf, soundOf, sound};
 
 // The row writer.
 fn write_row(row: &mut [u8], words: [u64; 6])
@@ -38,6 +41,27 @@ pub(crate) fn put_row(sheet: &mut [u8], row: u32, words: [u64; 6])
     write_row(&mut sheet[at..end], words);
 }
 
+fn times(row: &[u8]) -> u16
+    requires { ⌜ length (now row) ≡ 48 ⌝ }
+    ensures { λ r. ⌜ r ≡ timesIn (now (row .entry)) ⌝ }
+{
+    get_u16(row, 2)
+}
+
+// How often a row was driven, where its sheet keeps times, and where it does not.
+pub(crate) fn driven(row: &[u8], kept: bool) -> u16
+    requires { ⌜ length (now row) ≡ 48 ⌝ }
+    ensures { λ r. ⌜ r ≡ (when kept gives timesIn (now (row .entry)) else when eqb (functionIn (now (row .entry))) 0 gives 0 else 1) ⌝ }
+{
+    if kept {
+        return times(row);
+    }
+    if row[0] == 0 {
+        return 0;
+    }
+    1
+}
+
 fn first(row: &[u8]) -> f64
     requires { ⌜ length (now row) ≡ 48 ⌝ }
     ensures { λ r. ⌜ r ≡ firstIn (now (row .entry)) ⌝ }
@@ -64,32 +88,41 @@ fn kind(x: f64) -> usize
 pub struct Share {
     pub class: usize,
     pub value: f64,
+    pub times: u16,
 }
 
 pub(crate) fn share_of(row: &[u8]) -> Share
     requires { ⌜ length (now row) ≡ 48 ⌝ }
-    ensures { λ r. ⌜ (r .class ≡ classOf (now (row .entry))) × (r .value ≡ valueOf (now (row .entry))) ⌝ }
+    ensures { λ r. ⌜ Shared (now (row .entry)) (r .class) (r .value) (r .times) ⌝ }
 {
+    let k = times(row);
     if row[0] == 0 {
         return Share {
             class: 0,
             value: 0.0,
+            times: k,
         };
     }
     if row[1] > 0 {
         return Share {
             class: 4,
             value: 0.0,
+            times: k,
         };
     }
     let x = first(row);
     let class = kind(x);
     if class == 1 {
-        return Share { class: 1, value: x };
+        return Share {
+            class: 1,
+            value: x,
+            times: k,
+        };
     }
     Share {
         class: class,
         value: 0.0,
+        times: k,
     }
 }
 

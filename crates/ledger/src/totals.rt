@@ -12,8 +12,8 @@ ghost use lib.ListN.{length, getD};
 ghost use mathlib.Core.List.{[], _∷_, _++_};
 ghost use Rattle.total.specs.Total.{val, limbsOf, addOf, takeOf};
 ghost use Rattle.ledger.specs.Bytes.{number, fields, splice};
-ghost use Rattle.ledger.specs.Sheet.{Row, mostRows, rowPlace, classOf, valueOf};
-ghost use Rattle.ledger.specs.Calls.{Sized, rowsIn, countsIn, totalIn, plus, recount, revised};
+ghost use Rattle.ledger.specs.Sheet.{Row, mostRows, rowPlace};
+ghost use Rattle.ledger.specs.Calls.{Sized, rowsIn, countsIn, totalIn, Shared, plus, recount, revised};
 
 // Where the totals start: they are the last 296 bytes.
 fn totals_place(s: &[u8]) -> usize
@@ -78,13 +78,16 @@ fn recounted(counts: [u32; 5], old: usize, new: usize) -> [u64; 3]
     [pair(c[0], c[1]), pair(c[2], c[3]), pair(c[4], 0)]
 }
 
-// The total's limbs with one value taken away and another added.
-fn moved(s: &[u8], old: f64, new: f64) -> [u64; 34]
+// The total's limbs with an old row's share taken away and a new row's added.
+fn moved(s: &[u8], old: Share, new: Share) -> [u64; 34]
     requires { ⌜ Sized (now s) ⌝ }
-    ensures { λ r. ⌜ r ≡ limbsOf (addOf (takeOf (totalIn (now (s .entry))) old) new) ⌝ }
+    ensures { λ r. ⌜ r ≡ limbsOf (addOf (takeOf (totalIn (now (s .entry))) (old .times) (old .value)) (new .times) (new .value)) ⌝ }
 {
     let total = Total::of(read_total(s));
-    total.take(old).add(new).limbs()
+    total
+        .take(old.value, old.times)
+        .add(new.value, new.times)
+        .limbs()
 }
 
 fn write_totals(s: &mut [u8], counts: [u64; 3], limbs: [u64; 34])
@@ -98,11 +101,11 @@ fn write_totals(s: &mut [u8], counts: [u64; 3], limbs: [u64; 34])
 // An old row's share taken out of the totals, and a new row's put in.
 pub(crate) fn revise(sheet: &mut [u8], old: Share, new: Share)
     requires { ⌜ Sized (now sheet) × (old .class < 5) × (new .class < 5) × (0 < getD (countsIn (now sheet)) (old .class) 0) × (plus (countsIn (now sheet)) ≤ mostRows) ⌝ }
-    ensures { λ _. ⌜ ((o n : Row) → (old .class ≡ classOf o) × (old .value ≡ valueOf o) → (new .class ≡ classOf n) × (new .value ≡ valueOf n) → now (sheet .exit) ≡ splice (now (sheet .entry)) (rowPlace (rowsIn (now (sheet .entry)))) (revised (now (sheet .entry)) o n)) ⌝ }
+    ensures { λ _. ⌜ ((o n : Row) → Shared o (old .class) (old .value) (old .times) → Shared n (new .class) (new .value) (new .times) → now (sheet .exit) ≡ splice (now (sheet .entry)) (rowPlace (rowsIn (now (sheet .entry)))) (revised (now (sheet .entry)) o n)) ⌝ }
 {
     let from = totals_place(sheet);
     let to = sheet.len();
     let counts = recounted(read_counts(sheet), old.class, new.class);
-    let limbs = moved(sheet, old.value, new.value);
+    let limbs = moved(sheet, old, new);
     write_totals(&mut sheet[from..to], counts, limbs);
 }

@@ -73,18 +73,19 @@ unfoldable pub given : Number → (ℕ → Line) → Line
 given Not next = Malformed
 given (Value n) next = next n
 
--- five numbers, of which the row fits 32 bits and the function 8
-unfoldable pub editFrom : Number → Number → Number → Number → Number → Line
-editFrom row function a b c =
-    given row λ row. given function λ function. given a λ a. given b λ b. given c λ c.
+-- six numbers, of which the row fits 32 bits, the function 8 and the times 16
+unfoldable pub editFrom : Number → Number → Number → Number → Number → Number → Line
+editFrom row function a b c times =
+    given row λ row. given function λ function. given a λ a. given b λ b. given c λ c. given times λ times.
     when leb (2 ^ 32) row gives Malformed else
     when leb (2 ^ 8) function gives Malformed else
-    Edit row function a b c
+    when leb (2 ^ 16) times gives Malformed else
+    Edit row function a b c times
 
--- an edit: row, function, three arguments
+-- an edit: row, function, three arguments, and how often the leg was driven (02, [8])
 unfoldable pub lineOf : List ℕ → Line
 lineOf s =
     let field : ℕ → List ℕ = λ k. getD (fieldsOf s) k [] in
-    when eqb (length (fieldsOf s)) 5
-    gives editFrom (decimalOf (field 0)) (decimalOf (field 1)) (patternOf (field 2)) (patternOf (field 3)) (patternOf (field 4)) else
+    when eqb (length (fieldsOf s)) 6
+    gives editFrom (decimalOf (field 0)) (decimalOf (field 1)) (patternOf (field 2)) (patternOf (field 3)) (patternOf (field 4)) (decimalOf (field 5)) else
     Malformed

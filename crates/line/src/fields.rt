@@ -38,7 +38,7 @@ fn number(s: &[u8], base: u64) -> Number
 
 // The field that starts at from; past the line's end there is no number.
 pub(crate) fn field(s: &[u8], from: usize, base: u64) -> Found
-    requires { ⌜ length (now s) ≤ 72 ⌝ }
+    requires { ⌜ length (now s) ≤ 83 ⌝ }
     ensures { λ r. ⌜ Taken (now (s .entry)) from base (r .number) (r .next) ⌝ }
 {
     if s.len() < from {

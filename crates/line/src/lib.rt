@@ -8,8 +8,8 @@ use fields::field;
 ghost use mathlib.Core.Path.{_≡_};
 ghost use Rattle.line.specs.Line.{decimalOf, hexOf, editFrom, lineOf};
 
-// The longest line that can be well formed: two numbers of ten digits, three patterns, four spaces.
-pub const LONGEST: usize = 72;
+// The longest line that can be well formed: three numbers of ten digits, three patterns, five spaces.
+pub const LONGEST: usize = 83;
 
 pub enum Number {
     Value(u64),
@@ -23,6 +23,7 @@ pub enum Line {
         a: u64,
         b: u64,
         c: u64,
+        times: u16,
     },
     Malformed,
 }
@@ -44,9 +45,9 @@ pub fn read_hex(s: &[u8]) -> Number
     spell(s, 16)
 }
 
-// Five numbers as an edit: one that is none, or does not fit, makes it malformed.
-fn edit_from(row: Number, function: Number, a: Number, b: Number, c: Number) -> Line
-    ensures { λ r. ⌜ r ≡ editFrom row function a b c ⌝ }
+// Six numbers as an edit: one that is none, or does not fit, makes it malformed.
+fn edit_from(row: Number, function: Number, a: Number, b: Number, c: Number, times: Number) -> Line
+    ensures { λ r. ⌜ r ≡ editFrom row function a b c times ⌝ }
 {
     let Number::Value(row) = row else {
         return Line::Malformed;
@@ -63,10 +64,16 @@ fn edit_from(row: Number, function: Number, a: Number, b: Number, c: Number) -> 
     let Number::Value(c) = c else {
         return Line::Malformed;
     };
+    let Number::Value(times) = times else {
+        return Line::Malformed;
+    };
     if 0x1_0000_0000 <= row {
         return Line::Malformed;
     }
     if 0x100 <= function {
+        return Line::Malformed;
+    }
+    if 0x1_0000 <= times {
         return Line::Malformed;
     }
     Line::Edit {
@@ -75,6 +82,7 @@ fn edit_from(row: Number, function: Number, a: Number, b: Number, c: Number) -> 
         a,
         b,
         c,
+        times: times as u16,
     }
 }
 
@@ -90,7 +98,8 @@ pub fn read_edit(s: &[u8]) -> Line
     let a = field(s, function.next, 16);
     let b = field(s, a.next, 16);
     let c = field(s, b.next, 16);
-    if c.next <= s.len() {
+    let times = field(s, c.next, 10);
+    if times.next <= s.len() {
         return Line::Malformed;
     }
     let row = row.number;
@@ -98,5 +107,6 @@ pub fn read_edit(s: &[u8]) -> Line
     let a = a.number;
     let b = b.number;
     let c = c.number;
-    edit_from(row, function, a, b, c)
+    let times = times.number;
+    edit_from(row, function, a, b, c, times)
 }

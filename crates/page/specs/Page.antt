@@ -8,10 +8,10 @@ use Rattle.laws.specs.Ascii.{ascii}
 use Rattle.laws.specs.Ladder.{when_gives_else_}
 use Rattle.ledger.specs.Bytes.{number}
 use Rattle.ledger.specs.Sheet.{sizeFor, mostRows}
-use Rattle.ledger.specs.Calls.{rowsIn, readOf, totalOf, countOf}
+use Rattle.ledger.specs.Calls.{rowsIn, readOf, timesOf, totalOf, countOf}
 use Rattle.page.specs.Text.{decimal, pattern, space, end}
 
--- ---- a row: its number, its function and its refusal number, and its two answers
+-- ---- a row: its number, its function and its refusal number, its two answers, and how often it was driven (02, [8])
 
 -- the answer that stands at a place of the row, as its bit pattern
 unfoldable pub answerAt : List ℕ → ℕ → ℕ
@@ -20,17 +20,17 @@ answerAt w at = number (take 8 (drop at w))
 unfoldable pub headText : ℕ → ℕ → ℕ → List ℕ
 headText i function refusal = decimal i ++ space ++ decimal function ++ space ++ decimal refusal ++ space
 
-unfoldable pub answersText : ℕ → ℕ → List ℕ
-answersText first second = pattern first ++ space ++ pattern second ++ end
+unfoldable pub answersText : ℕ → ℕ → ℕ → List ℕ
+answersText first second times = pattern first ++ space ++ pattern second ++ space ++ decimal times ++ end
 
--- the line of the row i that stands in the bytes w
-unfoldable pub rowText : ℕ → List ℕ → List ℕ
-rowText i w = headText i (getD w 0 0) (getD w 1 0) ++ answersText (answerAt w 32) (answerAt w 40)
+-- the line of the row i that stands in the bytes w and was driven so many times
+unfoldable pub rowText : ℕ → List ℕ → ℕ → List ℕ
+rowText i w times = headText i (getD w 0 0) (getD w 1 0) ++ answersText (answerAt w 32) (answerAt w 40) times
 
 -- a row of the sheet; one that cannot be read has no line
 unfoldable pub rowLine : List ℕ → ℕ → List ℕ
 rowLine s i =
-    when eqb (length (readOf s i)) 48 gives rowText i (readOf s i) else
+    when eqb (length (readOf s i)) 48 gives rowText i (readOf s i) (timesOf s i) else
     []
 
 -- the first n rows

@@ -19,14 +19,14 @@ ghost use Rattle.page.specs.Writing.{Put};
 // The bytes of the largest sheet, 1,024 rows.
 pub const LARGEST: usize = 49480;
 
-// Room for its page: 48 bytes a row, and 128 for the counts and the total.
-pub const ROOM: usize = 49280;
+// Room for its page: 54 bytes a row, and 128 for the counts and the total.
+pub const ROOM: usize = 55424;
 
 // The lines of the first rows.
 fn put_rows(out: &mut [u8], sheet: &[u8], rows: u32) -> usize
-    requires { ⌜ (rows ≤ mostRows) × (length (now out) ≡ 49280) ⌝ }
+    requires { ⌜ (rows ≤ mostRows) × (length (now out) ≡ 55424) ⌝ }
     ensures { λ r. ⌜ Put (now (out .entry)) (now (out .exit)) 0 r (rowLines (now (sheet .entry)) rows) ⌝ }
-    ensures { λ r. ⌜ r ≤ 48 * rows ⌝ }
+    ensures { λ r. ⌜ r ≤ 54 * rows ⌝ }
 {
     let mut i: u32 = 0;
     let mut at: usize = 0;
@@ -83,7 +83,7 @@ fn row_count(sheet: &[u8]) -> u32
 }
 
 fn put_sheet(out: &mut [u8], sheet: &[u8]) -> usize
-    requires { ⌜ (length (now sheet) ≤ largest) × (length (now out) ≡ 49280) ⌝ }
+    requires { ⌜ (length (now sheet) ≤ largest) × (length (now out) ≡ 55424) ⌝ }
     ensures { λ r. ⌜ Put (now (out .entry)) (now (out .exit)) 0 r (pageOf (now (sheet .entry))) ⌝ }
     ensures { λ r. ⌜ r ≤ length (now (out .exit)) ⌝ }
 {

@@ -40,37 +40,39 @@ fn put_head(out: &mut [u8], at: usize, i: u32, function: u8, refusal: u8) -> usi
     put_decimal(out, b, 3, refusal as u64, 32)
 }
 
-// Two answers, and the line's end.
-fn put_answers(out: &mut [u8], at: usize, first: u64, second: u64) -> usize
-    requires { ⌜ at + 34 ≤ length (now out) ⌝ }
-    ensures { λ r. ⌜ Put (now (out .entry)) (now (out .exit)) at r (answersText first second) ⌝ }
-    ensures { λ r. ⌜ r ≤ at + 34 ⌝ }
+// Two answers, the times, and the line's end.
+fn put_answers(out: &mut [u8], at: usize, first: u64, second: u64, times: u16) -> usize
+    requires { ⌜ at + 40 ≤ length (now out) ⌝ }
+    ensures { λ r. ⌜ Put (now (out .entry)) (now (out .exit)) at r (answersText first second times) ⌝ }
+    ensures { λ r. ⌜ r ≤ at + 40 ⌝ }
 {
     let a = put_pattern(out, at, first, 32);
-    put_pattern(out, a, second, 10)
+    let b = put_pattern(out, a, second, 32);
+    put_decimal(out, b, 5, times as u64, 10)
 }
 
 // The line of a row that was read.
-fn put_text(out: &mut [u8], at: usize, i: u32, row: &[u8]) -> usize
-    requires { ⌜ (at + 48 ≤ length (now out)) × (i < mostRows) × (length (now row) ≡ 48) ⌝ }
-    ensures { λ r. ⌜ Put (now (out .entry)) (now (out .exit)) at r (rowText i (now (row .entry))) ⌝ }
-    ensures { λ r. ⌜ r ≤ at + 48 ⌝ }
+fn put_text(out: &mut [u8], at: usize, i: u32, row: &[u8], times: u16) -> usize
+    requires { ⌜ (at + 54 ≤ length (now out)) × (i < mostRows) × (length (now row) ≡ 48) ⌝ }
+    ensures { λ r. ⌜ Put (now (out .entry)) (now (out .exit)) at r (rowText i (now (row .entry)) times) ⌝ }
+    ensures { λ r. ⌜ r ≤ at + 54 ⌝ }
 {
     let first = word(&row[32..40]);
     let second = word(&row[40..48]);
     let a = put_head(out, at, i, row[0], row[1]);
-    put_answers(out, a, first, second)
+    put_answers(out, a, first, second, times)
 }
 
 // The line of row i.
 pub(crate) fn put_row(out: &mut [u8], at: usize, sheet: &[u8], i: u32) -> usize
-    requires { ⌜ (at + 48 ≤ length (now out)) × (i < mostRows) ⌝ }
+    requires { ⌜ (at + 54 ≤ length (now out)) × (i < mostRows) ⌝ }
     ensures { λ r. ⌜ Put (now (out .entry)) (now (out .exit)) at r (rowLine (now (sheet .entry)) i) ⌝ }
-    ensures { λ r. ⌜ r ≤ at + 48 ⌝ }
+    ensures { λ r. ⌜ r ≤ at + 54 ⌝ }
 {
     let row = ledger::read_row(sheet, i);
     if row.len() == 48 {
-        return put_text(out, at, i, row);
+        let times = ledger::row_times(sheet, i);
+        return put_text(out, at, i, row, times);
     }
     at
 }

@@ -1,5 +1,6 @@
 // One line's call, made on the library, and whether its answer is the line's.
 use super::script::byte;
+use super::script::half;
 use super::script::hex;
 use super::script::same;
 use super::script::shaped;
@@ -46,8 +47,9 @@ fn edit(line: &[u8], sheet: &mut [u8]) -> bool {
         a: hex(line, 14, 16),
         b: hex(line, 31, 16),
         c: hex(line, 48, 16),
+        times: half(line, 65),
     };
-    sheet::edit(sheet, word(line, 2), entry) == byte(line, 65)
+    sheet::edit(sheet, word(line, 2), entry) == byte(line, 70)
 }
 
 // The row's refusal, then its bytes.
@@ -55,7 +57,7 @@ fn read(line: &[u8], sheet: &[u8]) -> bool {
     if line.len() < 14 {
         return false;
     }
-    if !shaped(&line[0..13], [8, 2, 0, 0, 0, 0]) {
+    if !shaped(&line[0..13], [8, 2, 0, 0, 0, 0, 0]) {
         return false;
     }
     if line[13] != b' ' {
@@ -108,28 +110,34 @@ fn check(line: &[u8], sheet: &[u8], c: u8) -> bool {
     if c == b'N' {
         return ledger::count(sheet, byte(line, 2)) == word(line, 5);
     }
+    if c == b'K' {
+        return ledger::row_times(sheet, word(line, 2)) == half(line, 11);
+    }
     checksum(sheet) == hex(line, 2, 16)
 }
 
 fn reads(c: u8) -> bool {
-    (c == b'T') | (c == b'N') | (c == b'S')
+    (c == b'T') | (c == b'N') | (c == b'K') | (c == b'S')
 }
 
 // The widths of the fields after the letter.
-fn widths(c: u8) -> [usize; 6] {
+fn widths(c: u8) -> [usize; 7] {
     if c == b'E' {
-        return [8, 2, 16, 16, 16, 2];
+        return [8, 2, 16, 16, 16, 4, 2];
     }
     if c == b'T' {
-        return [2, 16, 0, 0, 0, 0];
+        return [2, 16, 0, 0, 0, 0, 0];
     }
     if c == b'N' {
-        return [2, 8, 0, 0, 0, 0];
+        return [2, 8, 0, 0, 0, 0, 0];
+    }
+    if c == b'K' {
+        return [8, 4, 0, 0, 0, 0, 0];
     }
     if c == b'S' {
-        return [16, 0, 0, 0, 0, 0];
+        return [16, 0, 0, 0, 0, 0, 0];
     }
-    [8, 2, 0, 0, 0, 0]
+    [8, 2, 0, 0, 0, 0, 0]
 }
 
 // Whether the answer is right. A line that is no call is wrong, and so is one whose fields do not read.

@@ -23,6 +23,12 @@ pub(crate) fn byte(line: &[u8], from: usize) -> u8
     (hex(line, from, 2) % 256) as u8
 }
 
+pub(crate) fn half(line: &[u8], from: usize) -> u16
+    requires { ⌜ from ≤ 4096 ⌝ }
+{
+    (hex(line, from, 4) % 65536) as u16
+}
+
 pub(crate) fn word(line: &[u8], from: usize) -> u32
     requires { ⌜ from ≤ 4096 ⌝ }
 {
@@ -65,10 +71,10 @@ fn after(s: &[u8], at: usize, width: usize) -> usize
 }
 
 // Whether the line is a letter, fields of these widths, and nothing more.
-pub(crate) fn shaped(s: &[u8], widths: [usize; 6]) -> bool {
+pub(crate) fn shaped(s: &[u8], widths: [usize; 7]) -> bool {
     let mut at: usize = 1;
     let mut i: usize = 0;
-    while i < 6 {
+    while i < 7 {
         at = after(s, at, widths[i]);
         if at == 0 {
             return false;

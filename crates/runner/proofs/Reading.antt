@@ -9,7 +9,8 @@ use lib.IntN.{ℤ}
 use lib.ListN.{take}
 use Rattle.page.specs.Writing.{Put}
 use Rattle.engine.specs.Run.{zeros}
-use Rattle.engine.specs.Machine.{Room, room, startOf}
+use Rattle.page.specs.Page.{largest}
+use Rattle.engine.specs.Machine.{longest, Room, room, startOf}
 use Rattle.engine.specs.laws.Law.{front}
 use Rattle.runner.specs.Reads.{read, Next, last, go-on, spent, mostReads, textOf, OneRead, SomeReads, Ran}
 
@@ -33,7 +34,7 @@ none-left k h =
     let e : k ≡ 0 = omega arith in
     record { reads = []; led = rw e spent }
 
-pub ran : {old out : List ℕ} {w : Room} {n : ℕ} {failed : Bool} → SomeReads mostReads (room startOf (zeros 72) (zeros 49480)) w failed
+pub ran : {old out : List ℕ} {w : Room} {n : ℕ} {failed : Bool} → SomeReads mostReads (room startOf (zeros longest) (zeros largest)) w failed
     → Put old out 0 n (textOf failed w) → Ran (take n out) failed
 ran {w = w} r p = record { reads = r .reads; end = w; led = r .led; written = front p }
 

@@ -10,9 +10,9 @@ use lib.ListN.{length, take}
 use Rattle.laws.specs.Ladder.{when_gives_else_}
 use Rattle.libc.specs.Io.{Moved}
 use Rattle.io.specs.Counts.{clamped}
-use Rattle.page.specs.Page.{failedLine}
+use Rattle.page.specs.Page.{largest, failedLine}
 use Rattle.engine.specs.Run.{zeros}
-use Rattle.engine.specs.Machine.{Room, room, startOf, feedOf, outputOf}
+use Rattle.engine.specs.Machine.{longest, Room, room, startOf, feedOf, outputOf}
 
 -- ---- one read
 
@@ -97,7 +97,7 @@ pub record SomeReads (n : ℕ) (w v : Room) (failed : Bool) : Type 0 where
 pub record Ran (text : List ℕ) (failed : Bool) : Type 0 where
   pub reads : List Read
   pub end : Room
-  pub led : Reads mostReads (room startOf (zeros 72) (zeros 49480)) reads end failed
+  pub led : Reads mostReads (room startOf (zeros longest) (zeros largest)) reads end failed
   pub written : text ≡ textOf failed end
 
 -- a whole run: it wrote the text of its reads

@@ -8,15 +8,15 @@ use Rattle.laws.specs.Ladder.{when_gives_else_}
 use Rattle.answer.specs.declared.Answer.{Answer}
 use Rattle.answer.specs.Answer.{refusalOf, firstOf, secondOf}
 use Rattle.functions.specs.Functions.{evaluateOf, usedOf}
-use Rattle.ledger.specs.Sheet.{Row, rowBytes, blankRow}
-use Rattle.ledger.specs.Calls.{rowsIn, isSheet, damaged, rungs, edited}
+use Rattle.ledger.specs.Sheet.{Row, withTimes, rowBytes, blankRow}
+use Rattle.ledger.specs.Calls.{rowsIn, isSheetOf, damaged, rungs, edited}
 use Rattle.sheet.specs.declared.Entry.{Entry}
 
--- ---- what is entered: a function's number and its arguments' bit patterns
+-- ---- what is entered: a function's number, its arguments' bit patterns, and how often the leg was driven
 
 -- what clears a row
 abbrev pub cleared : Entry
-cleared = record { function = 0; a = 0; b = 0; c = 0 }
+cleared = record { function = 0; a = 0; b = 0; c = 0; times = 0 }
 
 -- argument k, where the function reads so many; zero in place of one that it does not
 unfoldable pub keep : ℕ → ℕ → ℕ → ℕ
@@ -29,6 +29,7 @@ keptOf e = record {
   a = keep (e .function) 0 (e .a);
   b = keep (e .function) 1 (e .b);
   c = keep (e .function) 2 (e .c);
+  times = e .times;
 }
 
 -- ---- its row
@@ -37,13 +38,13 @@ keptOf e = record {
 abbrev pub answerOf : Entry → Answer
 answerOf e = evaluateOf (e .function) (e .a) (e .b) (e .c)
 
--- the function, its arguments and its answer, as a row
+-- the function, its arguments, its times and its answer, as a row
 unfoldable pub answered : Entry → Row
 answered e =
     let z = answerOf e in
-    rowBytes (e .function) (refusalOf z) (e .a ∷ e .b ∷ e .c ∷ toBits binary64 (firstOf z) ∷ toBits binary64 (secondOf z) ∷ [])
+    rowBytes (e .function) (refusalOf z) (e .times) (e .a ∷ e .b ∷ e .c ∷ toBits binary64 (firstOf z) ∷ toBits binary64 (secondOf z) ∷ [])
 
--- the row that an edit stores
+-- the row that an edit stores: a blank row has times 0, whatever the edit gave
 unfoldable pub rowOf : Entry → Row
 rowOf e =
     when eqb (e .function) 0 gives blankRow else
@@ -51,10 +52,10 @@ rowOf e =
 
 -- ---- the call
 
--- "Order for an edit: 7, 8, 9, 10."
+-- "Order for an edit: 7, 8, 9, 10."; 7 also for a sheet without times, which is only read
 unfoldable pub editRefusal : List ℕ → ℕ → ℕ → ℕ
 editRefusal s i f =
-    when not (isSheet s) gives 7 else
+    when not (isSheetOf withTimes s) gives 7 else
     rungs (rowsIn s) i f (when damaged s i gives 10 else 0)
 
 -- the entry's row stored; a refused edit changes no byte

@@ -6,12 +6,13 @@ ghost use Rattle.sheet.specs.Edit.{cleared, editRefusal, editOf};
 
 mod row;
 
-// What is entered in a row: a function's number and its arguments' bit patterns.
+// What is entered in a row: a function's number, its arguments' bit patterns, and how often the leg was driven.
 pub struct Entry {
     pub function: u8,
     pub a: u64,
     pub b: u64,
     pub c: u64,
+    pub times: u16,
 }
 
 // An entry worked out in a row: 7, 8, 9 or 10, or 0, stored.
@@ -33,6 +34,7 @@ pub fn clear(sheet: &mut [u8], row: u32) -> u8
             a: 0,
             b: 0,
             c: 0,
+            times: 0,
         },
     )
 }

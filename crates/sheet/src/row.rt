@@ -22,6 +22,7 @@ fn kept(entry: Entry) -> Entry
         a,
         b,
         c,
+        times: entry.times,
     }
 }
 
@@ -33,7 +34,7 @@ fn worked(entry: Entry) -> [u64; 6]
     let first = bits::to_pattern(z.first);
     let second = bits::to_pattern(z.second);
     [
-        (entry.function as u64) + 256 * (z.refusal as u64),
+        (entry.function as u64) + 256 * (z.refusal as u64) + 65536 * (entry.times as u64),
         entry.a,
         entry.b,
         entry.c,

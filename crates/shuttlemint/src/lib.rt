@@ -12,7 +12,7 @@ ghost use Rattle.answer.specs.Answer.{valueOf};
 ghost use Rattle.angle.specs.Sine.{sineOf};
 ghost use Rattle.angle.specs.Cosine.{cosineOf};
 ghost use Rattle.logarithm.specs.Logarithm.{logarithmOf};
-ghost use Rattle.ledger.specs.Calls.{blankRefusal, blankOf, rowRefusal, classIn, totalRefusal, totalOf, countOf};
+ghost use Rattle.ledger.specs.Calls.{blankRefusal, blankOf, rowRefusal, classIn, timesOf, totalRefusal, totalOf, countOf};
 ghost use Rattle.sheet.specs.Edit.{editRefusal, editOf};
 ghost use Rattle.shuttlemint.specs.Face.{evaluateRefusal, evaluateOut, rowPlaceOf};
 
@@ -113,10 +113,28 @@ pub extern "C" fn sm_blank(sheet: &mut [u8], rows: u32) -> u8
 }
 
 #[no_mangle]
-pub extern "C" fn sm_edit(sheet: &mut [u8], row: u32, function: u8, a: u64, b: u64, c: u64) -> u8
-    ensures { λ r. ⌜ (r ≡ editRefusal (now (sheet .entry)) row function) × (now (sheet .exit) ≡ editOf (now (sheet .entry)) row (record { function = function; a = a; b = b; c = c })) ⌝ }
+pub extern "C" fn sm_edit(
+    sheet: &mut [u8],
+    row: u32,
+    function: u8,
+    a: u64,
+    b: u64,
+    c: u64,
+    times: u16,
+) -> u8
+    ensures { λ r. ⌜ (r ≡ editRefusal (now (sheet .entry)) row function) × (now (sheet .exit) ≡ editOf (now (sheet .entry)) row (record { function = function; a = a; b = b; c = c; times = times })) ⌝ }
 {
-    sheet::edit(sheet, row, Entry { function, a, b, c })
+    sheet::edit(
+        sheet,
+        row,
+        Entry {
+            function,
+            a,
+            b,
+            c,
+            times,
+        },
+    )
 }
 
 // Where the row's own 48 bytes start in the lent sheet; its length where the read is refused, so that no byte stands there.
@@ -144,6 +162,14 @@ pub extern "C" fn sm_row_class(sheet: &[u8], row: u32) -> usize
     ensures { λ r. ⌜ r ≡ classIn (now (sheet .entry)) row ⌝ }
 {
     ledger::row_class(sheet, row)
+}
+
+// How often the row was driven, as its bytes say; in a sheet that says 1, whose rows keep no times, once, and a blank row never. 0 where the row can't be read.
+#[no_mangle]
+pub extern "C" fn sm_row_times(sheet: &[u8], row: u32) -> u16
+    ensures { λ r. ⌜ r ≡ timesOf (now (sheet .entry)) row ⌝ }
+{
+    ledger::row_times(sheet, row)
 }
 
 // How many rows are blank (0), finite (1), +∞ (2), -∞ (3) or refused (4), by the sheet's own counts; 0 for another class or where `sm_total_refusal` is not 0.

@@ -3,7 +3,7 @@ use mathlib.Core.Path.{_≡_, refl, ap, _∙_, sym}
 use mathlib.Core.Bool.{Bool, true, false, not}
 use mathlib.Core.List.{List}
 use Prim.Native.Nat.{ℕ, _+_, _*_, _^_, _%_, _<_, _≤_}
-use native.Mathlib.Nat.{add-mod-mod, zero-mul}
+use native.Mathlib.Nat.{add-mod-mod, zero-mul, mul-zero}
 use lib.Dec.{lit<, lit≤}
 use lib.Ieee.{Float, neg}
 use lib.Ieee.Scale.{finite}
@@ -20,25 +20,25 @@ module _ (x : Float) (f s : Bool) (d e : ℕ) (p : PartsOf x f s d e) where
       go true h = let q = p .decoded h in (q .digits, q .scale)
       go false h = let z = p .nothing h in (rw (z .1) (lit< tt), rw (z .2) (lit≤ tt))
 
-  units-are : (complement s (d * 2 ^ e) % N ≡ unitsOf x) × (complement (not s) (d * 2 ^ e) % N ≡ unitsOf (neg x))
-  units-are = go (finite x) refl
+  units-are : (k : ℕ) → (complement s (k * (d * 2 ^ e)) % N ≡ unitsOf k x) × (complement (not s) (k * (d * 2 ^ e)) % N ≡ unitsOf k (neg x))
+  units-are k = go (finite x) refl
     where
-      go : (b : Bool) → finite x ≡ b → (complement s (d * 2 ^ e) % N ≡ unitsOf x) × (complement (not s) (d * 2 ^ e) % N ≡ unitsOf (neg x))
+      go : (b : Bool) → finite x ≡ b → (complement s (k * (d * 2 ^ e)) % N ≡ unitsOf k x) × (complement (not s) (k * (d * 2 ^ e)) % N ≡ unitsOf k (neg x))
       go true h =
           let v = p .decoded h .value in
-          (sym (units-value x s (d * 2 ^ e) v), sym (units-value (neg x) (not s) (d * 2 ^ e) (neg-value x s (d * 2 ^ e) (2 ^ 1074) v)))
+          (sym (units-value k x s (d * 2 ^ e) v), sym (units-value k (neg x) (not s) (d * 2 ^ e) (neg-value x s (d * 2 ^ e) (2 ^ 1074) v)))
       go false h =
-          let n = units-none x h in
-          let z : d * 2 ^ e ≡ 0 = ap (λ (k : ℕ). k * 2 ^ e) (p .nothing h .1) ∙ zero-mul (2 ^ e) in
-          (ap (λ (k : ℕ). complement s k % N) z ∙ complement-zero s ∙ sym (n .0), ap (λ (k : ℕ). complement (not s) k % N) z ∙ complement-zero (not s) ∙ sym (n .1))
+          let n = units-none k x h in
+          let z : k * (d * 2 ^ e) ≡ 0 = ap (λ (m : ℕ). k * m) (ap (λ (m : ℕ). m * 2 ^ e) (p .nothing h .1) ∙ zero-mul (2 ^ e)) ∙ mul-zero k in
+          (ap (λ (m : ℕ). complement s m % N) z ∙ complement-zero s ∙ sym (n .0), ap (λ (m : ℕ). complement (not s) m % N) z ∙ complement-zero (not s) ∙ sym (n .1))
 
-  pub added : (t : ℕ) → (t + complement s (d * 2 ^ e)) % N ≡ addOf t x
+  pub added : (t k : ℕ) → (t + complement s (k * (d * 2 ^ e))) % N ≡ addOf t k x
   unfolding addOf
-  added t = sym (add-mod-mod t (complement s (d * 2 ^ e)) N) ∙ ap (λ (u : ℕ). (t + u) % N) (units-are .0)
+  added t k = sym (add-mod-mod t (complement s (k * (d * 2 ^ e))) N) ∙ ap (λ (u : ℕ). (t + u) % N) (units-are k .0)
 
-  pub taken : (t : ℕ) → (t + complement (not s) (d * 2 ^ e)) % N ≡ takeOf t x
+  pub taken : (t k : ℕ) → (t + complement (not s) (k * (d * 2 ^ e))) % N ≡ takeOf t k x
   unfolding takeOf
-  taken t = sym (add-mod-mod t (complement (not s) (d * 2 ^ e)) N) ∙ ap (λ (u : ℕ). (t + u) % N) (units-are .1)
+  taken t k = sym (add-mod-mod t (complement (not s) (k * (d * 2 ^ e))) N) ∙ ap (λ (u : ℕ). (t + u) % N) (units-are k .1)
 
 -- limbs of a number, said of the number modulo N
 pub held : (l : List ℕ) (n v : ℕ) → l ≡ limbsOf n → n % N ≡ v → (val l ≡ v) × (l ≡ limbsOf v)

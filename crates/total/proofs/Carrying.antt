@@ -1,15 +1,17 @@
 -- A carry, or a borrow, goes up the limbs: what is left to carry is always in balance with what was asked. Assumes nothing.
-use mathlib.Core.Path.{_≡_, ap, _∙_, sym, subst}
+use mathlib.Core.Path.{_≡_, refl, ap, _∙_, sym, subst}
 use mathlib.Core.Bool.{Bool, true, false}
 use mathlib.Core.List.{List, [], _∷_}
 use Prim.Native.Nat.{ℕ, zero, suc, _+_, _*_, _^_, _%_, _/_, _-_, _<_, _≤_}
-use native.Mathlib.Nat.{le-trans, le-of-lt, le-of-eq, le-of-suc-le-suc, not-suc-le-zero, mul-le-mul-left, mul-comm, mul-add, mul-assoc, mul-zero, le-antisymm, mod-add-mod, mod-add-div, mul-left-comm, mul-div-mul-right}
+use native.Mathlib.Nat.{le-trans, le-of-lt, le-of-eq, le-of-suc-le-suc, not-suc-le-zero, mul-le-mul-left, mul-comm, mul-add, mul-assoc, mul-zero, add-zero, le-antisymm, mod-lt, mod-add-mod, mod-add-div, mul-mod-left, mul-div-mul-right}
 use native.Mathlib.Omega.{arith}
 use lib.ListN.{length, getD, set}
-use lib.Pow.{pow-mono, pow-pos, pow-add, shl-lt, shr-shr}
+use lib.Pow.{pow-mono, pow-pos, pow-add, shl-lt, shl-shr, shr-lt, shr-shr, mod-pow-add}
+use lib.Arith.{digits-lt}
 use Rattle.total.specs.Total.{val, limbsOf, complement, N}
 use Rattle.total.specs.Carry.{W, Balance}
 use Rattle.total.specs.laws.Limbs.{Fit, W-pow, W-next, W-34, limbs-val, val-limbs, same-mod, same-limbs}
+use Rattle.total.specs.laws.Units.{times-lt}
 
 -- ---- one limb set
 pub val-set : (l : List ℕ) (i z : ℕ) → i < length l → val (set l i z) + W i * getD l i 0 ≡ val l + W i * z
@@ -61,13 +63,13 @@ reach i y h b =
     let m : W (i + 1) ≤ W 34 = rw (W-pow (i + 1), W-pow 34) (pow-mono (let g : 64 * (i + 1) ≤ 64 * 34 = omega arith in g)) in
     le-trans a (le-trans (le-of-eq (mul-comm (W i) 0x1_0000_0000_0000_0000 ∙ sym (W-next i))) (le-trans m (le-of-eq W-34)))
 
--- ---- digits at a place that lies across two limbs
+-- ---- three words, moved one after the other
 moved-twice : (away : Bool) (t j k : ℕ) → j + k ≤ N → (t + complement away j + complement away k) % N ≡ (t + complement away (j + k)) % N
 unfolding complement
 moved-twice true t j k h = same-mod (t + (N - j) + (N - k)) (t + (N - (j + k))) 0 1 (omega arith)
 moved-twice false t j k h = ap (λ (n : ℕ). n % N) (let e : t + j + k ≡ t + (j + k) = omega arith in e)
 
-pub both : (away : Bool) (t j k n : ℕ) (l r : List ℕ) → j + k ≡ n → n ≤ N → l ≡ limbsOf (t + complement away j) → r ≡ limbsOf (val l + complement away k) → r ≡ limbsOf (t + complement away n)
+both : (away : Bool) (t j k n : ℕ) (l r : List ℕ) → j + k ≡ n → n ≤ N → l ≡ limbsOf (t + complement away j) → r ≡ limbsOf (val l + complement away k) → r ≡ limbsOf (t + complement away n)
 both away t j k n l r e h a b =
     b ∙ same-limbs (val l + complement away k) (t + complement away n)
     (ap (λ (v : ℕ). (v + complement away k) % N) (ap val a ∙ val-limbs (t + complement away j))
@@ -75,23 +77,54 @@ both away t j k n l r e h a b =
     ∙ moved-twice away t j k (rw e h)
     ∙ ap (λ (m : ℕ). (t + complement away m) % N) e)
 
-pub placed : (d e : ℕ) → d < 2 ^ 53 → W (e / 64) * (d * 2 ^ (e % 64) % 2 ^ 64) + W (e / 64 + 1) * (d / 2 / 2 ^ (63 - e % 64)) ≡ d * 2 ^ e
-placed d e h =
-    let at = e / 64 in
-    let by = e % 64 in
-    let n = d * 2 ^ by in
-    let high : d / 2 / 2 ^ (63 - by) ≡ n / 2 ^ 64 = shr-shr d 1 (63 - by) ∙ up-both by (63 - by) (omega arith) in
-    let join : W (at + 1) * (n / 2 ^ 64) ≡ W at * (2 ^ 64 * (n / 2 ^ 64)) = rw (W-next at) (mul-left (W at) (n / 2 ^ 64)) in
-    let split : n % 2 ^ 64 + 2 ^ 64 * (n / 2 ^ 64) ≡ n = mod-add-div n (2 ^ 64) in
-    let place : W at * n ≡ d * 2 ^ e = rw (W-pow at) (mul-left-comm (2 ^ (64 * at)) d (2 ^ by) ∙ ap (λ (z : ℕ). d * z) (sym (pow-add 2 (64 * at) by) ∙ ap (λ (z : ℕ). 2 ^ z) (let g : 64 * at + by ≡ e = omega arith in g))) in
-    rw (high, join) (sym (mul-add (W at) (n % 2 ^ 64) (2 ^ 64 * (n / 2 ^ 64))) ∙ ap (λ (z : ℕ). W at * z) split ∙ place)
+pub three : (away : Bool) (t i j k n : ℕ) (l m r : List ℕ) → i + j + k ≡ n → n ≤ N
+    → l ≡ limbsOf (t + complement away i) → m ≡ limbsOf (val l + complement away j) → r ≡ limbsOf (val m + complement away k) → r ≡ limbsOf (t + complement away n)
+three away t i j k n l m r e h a b c = both away t (i + j) k n m r e h (both away t i j (i + j) l m refl (omega arith) a b) c
+
+-- ---- the words: a product of two limbs, shifted by less than a limb
+-- what a shift leaves above its limb
+above : (d by : ℕ) → by < 64 → d / 2 / 2 ^ (63 - by) ≡ d * 2 ^ by / 2 ^ 64
+above d by h = shr-shr d 1 (63 - by) ∙ up (63 - by) (omega arith)
   where
-    mul-left : (w q : ℕ) → 0x1_0000_0000_0000_0000 * w * q ≡ w * (0x1_0000_0000_0000_0000 * q)
-    mul-left w q = omega arith
+    up : (rest : ℕ) → 1 + rest + by ≡ 64 → d / 2 ^ (1 + rest) ≡ d * 2 ^ by / 2 ^ 64
+    up rest e = sym (ap (λ (z : ℕ). d * 2 ^ by / z) (ap (λ (z : ℕ). 2 ^ z) (sym e) ∙ pow-add 2 (1 + rest) by) ∙ mul-div-mul-right d (2 ^ (1 + rest)) (pow-pos by))
 
-    up-both : (by rest : ℕ) → 1 + rest + by ≡ 64 → d / 2 ^ (1 + rest) ≡ d * 2 ^ by / 2 ^ 64
-    up-both by rest e = sym (ap (λ (z : ℕ). d * 2 ^ by / z) (ap (λ (z : ℕ). 2 ^ z) (sym e) ∙ pow-add 2 (1 + rest) by) ∙ mul-div-mul-right d (2 ^ (1 + rest)) (pow-pos by))
+-- the limb and what is above it
+shifted : (d by : ℕ) → by < 64 → d * 2 ^ by % 2 ^ 64 + 2 ^ 64 * (d / 2 / 2 ^ (63 - by)) ≡ d * 2 ^ by
+shifted d by h = rw (above d by h) (mod-add-div (d * 2 ^ by) (2 ^ 64))
 
-pub small : (d e : ℕ) → d < 2 ^ 53 → e ≤ 2045 → d * 2 ^ e ≤ N
+pub words-are : (n l h by : ℕ) → by < 64 → h * 2 ^ 64 + l ≡ n
+    → val (l * 2 ^ by % 2 ^ 64 ∷ (h * 2 ^ by % 2 ^ 64 + l / 2 / 2 ^ (63 - by)) ∷ h / 2 / 2 ^ (63 - by) ∷ []) ≡ n * 2 ^ by
+unfolding val
+words-are n l h by b e = join 0x1_0000_0000_0000_0000 _ _ _ _ l h (2 ^ by) (shifted l by b) (shifted h by b) ∙ ap (λ (z : ℕ). z * 2 ^ by) e
+  where
+    join : (w l0 l1 h0 h1 l h p : ℕ) → l0 + w * l1 ≡ l * p → h0 + w * h1 ≡ h * p → l0 + w * (h0 + l1 + w * (h1 + w * 0)) ≡ (h * w + l) * p
+    join w l0 l1 h0 h1 l h p e f = let m = simp mul-add at (ap (λ (n : ℕ). w * n) f) in omega (arith, m)
+
+-- the middle word is two that do not overlap: below the shift and from it on
+pub words-fit : (l h by : ℕ) → by < 64 → l < 2 ^ 64 → h * 2 ^ by % 2 ^ 64 + l / 2 / 2 ^ (63 - by) < 2 ^ 64
+words-fit l h by b f =
+    let rest = 64 - by in
+    let whole : 64 ≡ rest + by = omega arith in
+    let top : h * 2 ^ by % 2 ^ (rest + by) ≡ h % 2 ^ rest * 2 ^ by = mod-pow-add (h * 2 ^ by) rest by ∙ (λ i. (shl-shr h by i % 2 ^ rest) * 2 ^ by + mul-mod-left h (2 ^ by) i) ∙ add-zero (h % 2 ^ rest * 2 ^ by) in
+    let low : l / 2 / 2 ^ (63 - by) < 2 ^ by = rw (shr-shr l 1 (63 - by)) (shr-lt by (1 + (63 - by)) (subst (λ (z : ℕ). l < 2 ^ z) (let g : 64 ≡ by + (1 + (63 - by)) = omega arith in g) f)) in
+    subst (λ (z : ℕ). h * 2 ^ by % 2 ^ z + l / 2 / 2 ^ (63 - by) < 2 ^ z) (sym whole)
+    (rw (top, pow-add 2 rest by) (digits-lt (mod-lt h (pow-pos rest)) low))
+
+-- ---- and at their place
+pub placed : (at by e k d x y z : ℕ) → 64 * at + by ≡ e → val (x ∷ y ∷ z ∷ []) ≡ k * d * 2 ^ by → W at * x + W (at + 1) * y + W (at + 2) * z ≡ k * (d * 2 ^ e)
+unfolding val
+placed at by e k d x y z p v =
+    weigh 0x1_0000_0000_0000_0000 (W at) (W (at + 1)) (W (at + 2)) x y z (k * d * 2 ^ by) (W-next at) (ap W (let g : at + 2 ≡ at + 1 + 1 = omega arith in g) ∙ W-next (at + 1)) v
+    ∙ raise (W at) k d (2 ^ by) (2 ^ e) (ap (λ (w : ℕ). w * 2 ^ by) (W-pow at) ∙ sym (pow-add 2 (64 * at) by) ∙ ap (λ (n : ℕ). 2 ^ n) p)
+  where
+    weigh : (b w w' w'' x y z n : ℕ) → w' ≡ b * w → w'' ≡ b * w' → x + b * (y + b * (z + b * 0)) ≡ n → w * x + w' * y + w'' * z ≡ w * n
+    weigh b w w' w'' x y z n e f g = rw (f, e, sym g) (omega arith)
+
+    raise : (w k d p q : ℕ) → w * p ≡ q → w * (k * d * p) ≡ k * (d * q)
+    raise w k d p q e = rw (sym e) (omega arith)
+
+-- and they are below N
+pub small : (k d e : ℕ) → k < 2 ^ 16 → d < 2 ^ 53 → e ≤ 2045 → k * (d * 2 ^ e) ≤ N
 unfolding N
-small d e h g = le-trans (le-of-lt (shl-lt 53 e h)) (pow-mono (let k : 53 + e ≤ 2176 = omega arith in k))
+small k d e b h g = le-trans (le-of-lt (times-lt k (d * 2 ^ e) (53 + e) b (shl-lt 53 e h))) (pow-mono (let m : 16 + (53 + e) ≤ 2176 = omega arith in m))

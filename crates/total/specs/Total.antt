@@ -42,17 +42,17 @@ sizeOf nan = 0
 sizeOf (inf s) = 0
 sizeOf (fin s m e) = m * up e * 2 ^ 1074 / down e
 
--- what a value adds to the total: nothing, where it is NaN or an infinity
-unfoldable pub unitsOf : Float → ℕ
-unitsOf x = complement (negative x) (sizeOf x) % N
+-- what a value brings to the total, k times over: nothing, where it is NaN or an infinity
+unfoldable pub unitsOf : ℕ → Float → ℕ
+unitsOf k x = complement (negative x) (k * sizeOf x) % N
 
--- the total t with x added
-unfoldable pub addOf : ℕ → Float → ℕ
-addOf t x = (t + unitsOf x) % N
+-- the total t with x added k times
+unfoldable pub addOf : ℕ → ℕ → Float → ℕ
+addOf t k x = (t + unitsOf k x) % N
 
--- and with x taken away, which is -x added
-unfoldable pub takeOf : ℕ → Float → ℕ
-takeOf t x = (t + unitsOf (neg x)) % N
+-- and with x taken away k times, which is -x added
+unfoldable pub takeOf : ℕ → ℕ → Float → ℕ
+takeOf t k x = (t + unitsOf k (neg x)) % N
 
 -- the total rounded once: to the nearest f64, ties to even, too large is infinite, zero is +0
 unfoldable pub roundTotal : ℕ → Float

@@ -22,24 +22,24 @@ impl Total {
         Total { limbs: limbs }
     }
 
-    // x added. NaN or an infinity leaves the total as it stands.
-    pub fn add(self, x: f64) -> Total
-        ensures { λ r. ⌜ (val (r .limbs) ≡ addOf (val (self .limbs)) x) × (r .limbs ≡ limbsOf (addOf (val (self .limbs)) x)) ⌝ }
+    // x added so many times. NaN or an infinity leaves the total as it stands.
+    pub fn add(self, x: f64, times: u16) -> Total
+        ensures { λ r. ⌜ (val (r .limbs) ≡ addOf (val (self .limbs)) times x) × (r .limbs ≡ limbsOf (addOf (val (self .limbs)) times x)) ⌝ }
     {
         let p = bits::parts(x);
-        let held = self.limbs;
-        let out = limbs::moved(held, p.digits, p.exponent, p.negative);
-        Total { limbs: out }
+        let mut held = self.limbs;
+        limbs::moved(&mut held, p.digits, times, p.exponent, p.negative);
+        Total { limbs: held }
     }
 
-    // x taken away, which undoes adding it.
-    pub fn take(self, x: f64) -> Total
-        ensures { λ r. ⌜ (val (r .limbs) ≡ takeOf (val (self .limbs)) x) × (r .limbs ≡ limbsOf (takeOf (val (self .limbs)) x)) ⌝ }
+    // x taken away so many times, which undoes adding it.
+    pub fn take(self, x: f64, times: u16) -> Total
+        ensures { λ r. ⌜ (val (r .limbs) ≡ takeOf (val (self .limbs)) times x) × (r .limbs ≡ limbsOf (takeOf (val (self .limbs)) times x)) ⌝ }
     {
         let p = bits::parts(x);
-        let held = self.limbs;
-        let out = limbs::moved(held, p.digits, p.exponent, !p.negative);
-        Total { limbs: out }
+        let mut held = self.limbs;
+        limbs::moved(&mut held, p.digits, times, p.exponent, !p.negative);
+        Total { limbs: held }
     }
 
     // The limbs, handed back.

@@ -53,7 +53,9 @@ fn turned(limbs: [u64; 34]) -> [u64; 34]
 fn negated(limbs: [u64; 34]) -> [u64; 34]
     ensures { λ r. ⌜ r ≡ limbsOf (N - val limbs) ⌝ }
 {
-    ripple(turned(limbs), 0, 1, false)
+    let mut out = turned(limbs);
+    ripple(&mut out, 0, 1, false);
+    out
 }
 
 // A number without its sign: the two highest limbs, and whether anything is left below them, go to the one rounding.

@@ -8,7 +8,7 @@ from __future__ import annotations
 import ctypes
 import operator
 import os
-from ctypes import c_size_t, c_uint8, c_uint32, c_uint64, c_void_p
+from ctypes import c_size_t, c_uint8, c_uint16, c_uint32, c_uint64, c_void_p
 from itertools import repeat
 from pathlib import Path
 from typing import Any, List, Tuple
@@ -32,9 +32,10 @@ _SLICE = [c_void_p, c_size_t]
 _CALLS = {
     "sm_evaluate": (c_uint8, [c_uint8, c_uint64, c_uint64, c_uint64, *_SLICE]),
     "sm_blank": (c_uint8, [*_SLICE, c_uint32]),
-    "sm_edit": (c_uint8, [*_SLICE, c_uint32, c_uint8, c_uint64, c_uint64, c_uint64]),
+    "sm_edit": (c_uint8, [*_SLICE, c_uint32, c_uint8, c_uint64, c_uint64, c_uint64, c_uint16]),
     "sm_row_at": (c_size_t, [*_SLICE, c_uint32]),
     "sm_row_refusal": (c_uint8, [*_SLICE, c_uint32]),
+    "sm_row_times": (c_uint16, [*_SLICE, c_uint32]),
     "sm_total": (c_uint64, _SLICE),
     "sm_total_refusal": (c_uint8, _SLICE),
 }
@@ -104,6 +105,14 @@ def pattern_of(number: Any) -> int:
     whole: int = operator.index(number)
     if not 0 <= whole < 1 << 64:
         raise ValueError(f"{whole} is no bit pattern of 64 bits; give a whole number from 0 to 2**64 - 1")
+    return whole
+
+
+def times_of(number: Any) -> int:
+    """How often a leg was driven, which has 16 bits. No refusal has a number for more, and cut to 16 bits it would be another."""
+    whole: int = operator.index(number)
+    if not 0 <= whole < 1 << 16:
+        raise ValueError(f"{whole} is no number of times that a row can keep; give 0 to 65535, and the rest to another row")
     return whole
 
 

@@ -34,7 +34,7 @@ _WORDS = {
     4: "n is 1, where the integral is infinite; take another characteristic",
     5: "the steps did not settle in 64 rounds; bring the arguments nearer to 1 in size",
     6: "the steps overflow or meet 0·∞; take finite arguments, nearer to 1 in size",
-    7: "these bytes are no sheet; read all 328 + 48·rows bytes again, or make a blank sheet",
+    7: "these bytes are no sheet, or an old one without times, which is only read; read all 328 + 48·rows bytes again, or enter the legs in a blank sheet",
     8: "there is no such row; rows are counted from 0 and stay below the sheet's row count",
     9: "no function has this number; 0 is blank, 1 ellipk, 2 ellipe, 3 ellipke, 4 ellippi, 5 ellipeinc, 6 ellipf",
     10: "the row or the counts are damaged; fetch the sheet again, or edit every row afresh in a blank one",

@@ -9,12 +9,13 @@ from fractions import Fraction
 from typing import Any, Iterator, NamedTuple, Tuple, Union
 
 from ._integrals import pattern, value
-from ._library import FUNCTIONS, library, pattern_of, within
+from ._library import FUNCTIONS, library, pattern_of, times_of, within
 from ._refusals import accepted, refusal_words
 
 MOST_ROWS = 1024
 _EMPTY, _ROW, _TOTALS, _TOTAL = 328, 48, 296, 272
 _U32 = (1 << 32) - 1
+_WITH_TIMES = 3  # the first word of a sheet whose rows keep times
 _NUMBERS = {name: number for number, (name, _, _) in enumerate(FUNCTIONS)}
 _NUMBERS["ellipkinc"] = _NUMBERS["ellipf"]
 
@@ -40,11 +41,13 @@ class Counts(NamedTuple):
 
 
 class Row(NamedTuple):
-    """A row as it was when it was read: `function` and `refusal` are numbers, `patterns` the bit patterns of three arguments and two answers."""
+    """A row as it was when it was read: `function` and `refusal` are numbers, `patterns` the bit patterns of three arguments and two answers, `times` how often
+    the leg was driven (0 for a blank row; once for any other of a sheet that keeps no times)."""
 
     function: int
     refusal: int
     patterns: Tuple[int, int, int, int, int]
+    times: int
 
     @property
     def name(self) -> str:
@@ -82,7 +85,8 @@ class Row(NamedTuple):
 
 
 class Sheet:
-    """A leg sheet: rows of functions worked out, five counts, and the exact total of the finite rows' first answers.
+    """A leg sheet: rows of functions worked out, each with the times that it was driven, five counts, and the exact total of the finite rows: times
+    multiplied by first answer.
 
     `Sheet(rows)` has so many blank rows, at most 1,024 (refusal 11). A refused call changes no byte.
 
@@ -125,7 +129,7 @@ class Sheet:
         >>> Sheet.from_bytes(b"no sheet")
         Traceback (most recent call last):
             ...
-        shuttlemint.Refused: Sheet.from_bytes: refusal 7: these bytes are no sheet; read all 328 + 48·rows bytes again, or make a blank sheet
+        shuttlemint.Refused: Sheet.from_bytes: refusal 7: these bytes are no sheet, or an old one without times, which is only read; read all 328 + 48·rows bytes again, or enter the legs in a blank sheet
         """
         return cls._of(bytearray(memoryview(data).cast("B")), "Sheet.from_bytes")
 
@@ -142,17 +146,28 @@ class Sheet:
         with open(path, "rb") as file:
             return cls._of(bytearray(file.read(_EMPTY + _ROW * MOST_ROWS + 1)), f"Sheet.load({os.fspath(path)!r})")
 
-    def edit(self, row: int, function: Union[int, str], *arguments: float) -> Row:
+    @property
+    def keeps_times(self) -> bool:
+        """Whether its rows keep times: its first word says 3. One that says 1 is from before they did: it is only read, and an edit to it is refused 7.
+
+        >>> Sheet(1).keeps_times
+        True
+        """
+        return int.from_bytes(self._bytes[:4], "little") == _WITH_TIMES
+
+    def edit(self, row: int, function: Union[int, str], *arguments: float, times: int = 1) -> Row:
         """Works the function out, puts it in the row in place of what stands there, and gives the row. The counts and the total follow.
 
-        The function goes by number or by name. Refusals: 8 for no such row, 9 for no such function, 10 for damage. A refusal of the function
-        itself, 1 to 6, is no refusal of the edit: the row keeps it.
+        The function goes by number or by name. `times` is how often the leg was driven, 0 to 65535. Refusals: 7 for a sheet that does not keep times, 8 for no
+        such row, 9 for no such function, 10 for damage. A refusal of the function itself, 1 to 6, is no refusal of the edit: the row keeps it.
 
         >>> sheet = Sheet(1)
         >>> sheet.edit(0, "ellipke", 1.0).answers
         (inf, 1.0)
         >>> sheet.edit(0, 3, 2.0).refusal
         2
+        >>> sheet.edit(0, "ellipeinc", 1.5, 0.0, times=3).times, sheet.total()
+        (3, 4.5)
         >>> sheet.edit(1, "ellipk", 0.5)
         Traceback (most recent call last):
             ...
@@ -167,7 +182,7 @@ class Sheet:
             patterns = [pattern(x) for x in arguments[:3]]
         except struct.error:
             raise TypeError("Sheet.edit: arguments must be real numbers") from None
-        return self.edit_patterns(row, number, *patterns)
+        return self.edit_patterns(row, number, *patterns, times=times)
 
     @staticmethod
     def _number(function: Union[int, str]) -> int:
@@ -177,29 +192,29 @@ class Sheet:
             return _NUMBERS[function]
         return within(function, 255)
 
-    def edit_patterns(self, row: int, function: int, a: int = 0, b: int = 0, c: int = 0) -> Row:
+    def edit_patterns(self, row: int, function: int, a: int = 0, b: int = 0, c: int = 0, times: int = 1) -> Row:
         """`edit` on bit patterns, which go into the row as they are, a NaN's too."""
         patterns = pattern_of(a), pattern_of(b), pattern_of(c)
         row = within(row, _U32)
-        accepted(library.sm_edit(*self._slice(), row, within(function, 255), *patterns), f"Sheet.edit of row {row}")
+        accepted(library.sm_edit(*self._slice(), row, within(function, 255), *patterns, times_of(times)), f"Sheet.edit of row {row}")
         return self.row(row)
 
     def clear(self, row: int) -> None:
-        """Makes the row blank. Refusals 8 and 10."""
+        """Makes the row blank. Refusals 7 for a sheet that does not keep times, 8 and 10."""
         row = within(row, _U32)
-        accepted(library.sm_edit(*self._slice(), row, 0, 0, 0, 0), f"Sheet.clear of row {row}")
+        accepted(library.sm_edit(*self._slice(), row, 0, 0, 0, 0, 0), f"Sheet.clear of row {row}")
 
     def row(self, row: int) -> Row:
         """A row. Refusal 8 for no such row; rows are not counted from the end.
 
         >>> Sheet(1).row(0)
-        Row(function=0, refusal=0, patterns=(0, 0, 0, 0, 0))
+        Row(function=0, refusal=0, patterns=(0, 0, 0, 0, 0), times=0)
         """
         row = within(row, _U32)
         accepted(library.sm_row_refusal(*self._slice(), row), f"Sheet.row({row})")
         at = library.sm_row_at(*self._slice(), row)
         a, b, c, first, second = struct.unpack_from("<5Q", self._bytes, at + 8)
-        return Row(self._bytes[at], self._bytes[at + 1], (a, b, c, first, second))
+        return Row(self._bytes[at], self._bytes[at + 1], (a, b, c, first, second), library.sm_row_times(*self._slice(), row))
 
     def __len__(self) -> int:
         return (len(self._bytes) - _EMPTY) // _ROW

@@ -3,6 +3,7 @@ import copy
 import os
 import pickle
 import random
+import re
 import struct
 import tempfile
 import unittest
@@ -14,7 +15,7 @@ from unittest import mock
 from shuttlemint import Class, Counts, Refusal, Refused, Sheet, pattern, value
 from shuttlemint._library import library
 
-from .patterns import NAN, PLUS, SIGN, any_pattern, sheet_model
+from .patterns import NAN, PLUS, PROJECT, SIGN, any_pattern, sheet_model
 
 
 def refusal_of(call, *arguments):
@@ -42,11 +43,11 @@ class Replay:
             self.test.assertEqual(refused.number, 7)
             return None
 
-    def edit(self, row, function, a, b, c):
+    def edit(self, row, function, a, b, c, times):
         sheet = self.sheet()
         if sheet is None:
-            return library.sm_edit(*lent(self.data), row, function, a, b, c)
-        answer = refusal_of(sheet.edit_patterns, row, function, a, b, c)
+            return library.sm_edit(*lent(self.data), row, function, a, b, c, times)
+        answer = refusal_of(sheet.edit_patterns, row, function, a, b, c, times)
         if answer:
             self.test.assertEqual(sheet.to_bytes(), self.data)
         self.data = bytearray(sheet.to_bytes())
@@ -55,7 +56,7 @@ class Replay:
     def clear(self, row):
         sheet = self.sheet()
         if sheet is None:
-            return library.sm_edit(*lent(self.data), row, 0, 0, 0, 0)
+            return library.sm_edit(*lent(self.data), row, 0, 0, 0, 0, 0)
         answer = refusal_of(sheet.clear, row)
         self.data = bytearray(sheet.to_bytes())
         return answer
@@ -82,6 +83,13 @@ class Replay:
         self.test.assertEqual((read.function, read.refusal), (self.data[place], self.data[place + 1]))
         return 0, bytes([read.function, read.refusal]) + self.data[place + 2 : place + 8] + struct.pack("<5Q", *read.patterns)
 
+    def times(self, row):
+        sheet = self.sheet()
+        try:
+            return sheet.row(row).times if sheet else library.sm_row_times(*lent(self.data), row)
+        except Refused:
+            return 0
+
     def line(self, words):
         test, what, numbers = self.test, words[0], [int(w, 16) if w != "-" else 0 for w in words[1:]]
         if what == "L":
@@ -89,13 +97,15 @@ class Replay:
         elif what == "M":
             test.assertEqual(self.make(numbers[0]), numbers[1])
         elif what == "E":
-            test.assertEqual(self.edit(*numbers[:5]), numbers[5])
+            test.assertEqual(self.edit(*numbers[:6]), numbers[6])
         elif what == "C":
             test.assertEqual(self.clear(numbers[0]), numbers[1])
         elif what == "P":
             self.data[numbers[0]] = numbers[1]
         elif what == "R":
             test.assertEqual(self.read(numbers[0]), (numbers[1], b"" if words[3] == "-" else bytes.fromhex(words[3])))
+        elif what == "K":
+            test.assertEqual(self.times(numbers[0]), numbers[1])
         elif what == "T":
             sheet = self.sheet()
             test.assertEqual((7, 0) if sheet is None else (0, pattern(sheet.total())), tuple(numbers))
@@ -110,19 +120,16 @@ class Replay:
 class Model(unittest.TestCase):
     def test_the_models_script(self):
         model, replay = sheet_model(), Replay(self)
-        rng = random.Random(16)
-        model.example()
-        for part in (model.sizes, model.repaired, model.orders, model.ties, model.wander, model.damage):
-            part(rng)
+        model.script(random.Random(16))
         for line in model.out:
             replay.line(line.split(" "))
-        self.assertGreater(replay.calls, 5000)
+        self.assertGreater(replay.calls, 10000)
 
     def test_bytes_are_those_worked_out_afresh(self):
         """Demand 3: any edits in any order give the bytes of the last one of each row."""
         rng = random.Random(3)
         for rows in (1, 7, 40):
-            edits = [(rng.randrange(rows), rng.randrange(7), any_pattern(rng), any_pattern(rng), any_pattern(rng)) for _ in range(4 * rows)]
+            edits = [(rng.randrange(rows), rng.randrange(7), any_pattern(rng), any_pattern(rng), any_pattern(rng), rng.randrange(1 << 16)) for _ in range(4 * rows)]
             sheet, last = Sheet(rows), {}
             for edit in edits:
                 sheet.edit_patterns(*edit)
@@ -135,7 +142,7 @@ class Model(unittest.TestCase):
             for row in sheet:
                 counts[row.class_] += 1
             self.assertEqual(sheet.counts(), Counts(*counts))
-            self.assertEqual(sheet.exact_total(), sum(Fraction(row.answers[0]) for row in sheet if row.class_ == Class.FINITE))
+            self.assertEqual(sheet.exact_total(), sum(row.times * Fraction(row.answers[0]) for row in sheet if row.class_ == Class.FINITE))
 
 
 class Refusals(unittest.TestCase):
@@ -170,6 +177,29 @@ class Refusals(unittest.TestCase):
             data[place] ^= 1
             self.assertEqual(refusal_of(Sheet.from_bytes, data), 7, place)
 
+    def test_a_sheet_that_says_1_is_only_read(self):
+        sheet = Sheet(3)
+        sheet.edit(0, "ellipeinc", -1.5, 0.0)
+        sheet.edit(1, "ellippi", 1.0, 1.0)
+        self.assertTrue(sheet.keeps_times)
+        data = bytearray(sheet.to_bytes())
+        data[0] = 1
+        for place in (34, 82):
+            self.assertEqual(data[place], 1)
+            data[place] = 0
+        for anything in (0, 0x55):
+            data[34] = data[35] = data[82] = data[130] = anything
+            old = Sheet.from_bytes(data)
+            self.assertEqual((old.keeps_times, [row.times for row in old], old.total(), old.counts()), (False, [1, 1, 0], -1.5, Counts(1, 1, 0, 0, 1)))
+            for call in ((old.edit, 0, "ellipk", 0.5), (old.edit, 9, 200), (old.edit_patterns, 0, 1), (old.clear, 0), (old.clear, 9)):
+                self.assertEqual(refusal_of(*call), Refusal.NOT_A_SHEET)
+            self.assertEqual(old.to_bytes(), data)
+        with self.assertRaisesRegex(Refused, "Sheet.edit of row 0: refusal 7: .* an old one without times, which is only read"):
+            old.edit(0, "ellipk", 0.5)
+        for says in set(range(256)) - {1, 3}:
+            data[0] = says
+            self.assertEqual(refusal_of(Sheet.from_bytes, data), Refusal.NOT_A_SHEET)
+
     def test_damaged_rows_are_shown(self):
         data = bytearray(Sheet(1).to_bytes())
         data[32:34] = 5, 200
@@ -196,15 +226,37 @@ class Refusals(unittest.TestCase):
 
 class Calls(unittest.TestCase):
     def test_the_sheet_of_the_documents_bytes(self):
-        """docs/SHEET.md's sheet of two rows."""
+        """docs/SHEET.md's sheet of two rows: its dump is what the library makes."""
         sheet = Sheet(2)
-        sheet.edit(0, 5, -1.5, 0.0, 7.0)
-        sheet.edit(1, 4, 1.0, 1.0)
+        sheet.edit(0, 5, -1.5, 0.0, 7.0, times=1000)
+        sheet.edit(1, 4, 1.0, 1.0, times=2)
         data = sheet.to_bytes()
-        self.assertEqual(data[0x20:0x30].hex(" "), "05 00 00 00 00 00 00 00 00 00 00 00 00 00 f8 bf")
-        self.assertEqual(data[0x50:0x60].hex(" "), "04 04 00 00 00 00 00 00 00 00 00 00 00 00 f0 3f")
-        self.assertEqual(data[0x110:0x120].hex(" "), "00 00 00 00 00 00 00 00 00 00 00 00 00 00 fa ff")
-        self.assertEqual((len(data), sheet.total(), sheet.exact_total()), (424, -1.5, Fraction(-3, 2)))
+        dump = (PROJECT / "docs/SHEET.md").read_text().split("## A sheet of two rows, byte by byte")[1].split("```")[1]
+        places = []
+        for place, shown in re.findall(r"^([0-9a-f]{4})  ((?:[0-9a-f]{2} )*[0-9a-f]{2})(?:  |$)", dump, re.M):
+            at, shown = int(place, 16), bytes.fromhex(shown)
+            self.assertEqual(data[at : at + len(shown)], shown, place)
+            places += range(at, at + len(shown))
+        between = [byte for place, byte in enumerate(data) if place not in places]
+        self.assertEqual(between, [0] * 0x70 + [0xFF] * 0x70)
+        self.assertEqual((len(data), sheet.total(), sheet.exact_total()), (424, -1500.0, -1500))
+        self.assertEqual([row.times for row in sheet], [1000, 2])
+
+    def test_times(self):
+        sheet = Sheet(2)
+        for times in (65535, 0, 1, 255, 256):
+            row = sheet.edit(0, "ellipeinc", -1.5, 0.0, times=times)
+            self.assertEqual((row.times, row.class_, sheet.total()), (times, Class.FINITE, -1.5 * times))
+            self.assertEqual(sheet.to_bytes()[34:40], struct.pack("<HI", times, 0))
+        self.assertEqual(sheet.edit(0, "ellipeinc", -1.5, 0.0).times, 1)
+        self.assertEqual((sheet.edit(0, "ellippi", 1.0, 0.5, times=7).times, sheet.edit(1, "ellipk", 1.0, times=8).times, sheet.total()), (7, 8, 0.0))
+        self.assertEqual((sheet.edit(0, "blank", times=9).times, sheet.edit(1, 0, times=9).times, sheet), (0, 0, Sheet(2)))
+        for times in (65536, 1 << 16 | 1, 1 << 64, -1):
+            with self.assertRaisesRegex(ValueError, "give 0 to 65535"):
+                sheet.edit(0, "ellipk", 0.5, times=times)
+        with self.assertRaises(TypeError):
+            sheet.edit(0, "ellipk", 0.5, times=2.0)
+        self.assertEqual(sheet, Sheet(2))
 
     def test_names_numbers_and_patterns_are_one(self):
         sheets = [Sheet(1), Sheet(1), Sheet(1), Sheet(1)]

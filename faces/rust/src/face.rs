@@ -4,10 +4,11 @@ mod c {
     extern "C" {
         pub fn sm_evaluate(function: u8, a: u64, b: u64, c: u64, out: *mut u64, len: usize) -> u8;
         pub fn sm_blank(sheet: *mut u8, len: usize, rows: u32) -> u8;
-        pub fn sm_edit(sheet: *mut u8, len: usize, row: u32, function: u8, a: u64, b: u64, c: u64) -> u8;
+        pub fn sm_edit(sheet: *mut u8, len: usize, row: u32, function: u8, a: u64, b: u64, c: u64, times: u16) -> u8;
         pub fn sm_row_at(sheet: *const u8, len: usize, row: u32) -> usize;
         pub fn sm_row_refusal(sheet: *const u8, len: usize, row: u32) -> u8;
         pub fn sm_row_class(sheet: *const u8, len: usize, row: u32) -> usize;
+        pub fn sm_row_times(sheet: *const u8, len: usize, row: u32) -> u16;
         pub fn sm_count(sheet: *const u8, len: usize, class: u8) -> u32;
         pub fn sm_total(sheet: *const u8, len: usize) -> u64;
         pub fn sm_total_refusal(sheet: *const u8, len: usize) -> u8;
@@ -26,8 +27,8 @@ pub fn blank(sheet: &mut [u8], rows: u32) -> u8 {
     unsafe { c::sm_blank(sheet.as_mut_ptr(), sheet.len(), rows) }
 }
 
-pub fn edit(sheet: &mut [u8], row: u32, function: u8, [a, b, c]: [u64; 3]) -> u8 {
-    unsafe { c::sm_edit(sheet.as_mut_ptr(), sheet.len(), row, function, a, b, c) }
+pub fn edit(sheet: &mut [u8], row: u32, function: u8, [a, b, c]: [u64; 3], times: u16) -> u8 {
+    unsafe { c::sm_edit(sheet.as_mut_ptr(), sheet.len(), row, function, a, b, c, times) }
 }
 
 pub fn row_at(sheet: &[u8], row: u32) -> usize {
@@ -54,4 +55,9 @@ pub fn count(sheet: &[u8], class: u8) -> u32 {
 /// The row's class, 0 to 4; 5 where a first answer that is NaN decides, or where the row can't be read.
 pub fn row_class(sheet: &[u8], row: u32) -> usize {
     unsafe { c::sm_row_class(sheet.as_ptr(), sheet.len(), row) }
+}
+
+/// How often the row was driven; 0 where it can't be read.
+pub fn row_times(sheet: &[u8], row: u32) -> u16 {
+    unsafe { c::sm_row_times(sheet.as_ptr(), sheet.len(), row) }
 }

@@ -44,6 +44,8 @@
 //! assert_eq!(sheet.row(1)?.refusal(), Some(Refusal::CHARACTERISTIC_ONE));
 //! assert_eq!(sheet.count(Class::Refused), 1);
 //! assert_eq!(sheet.total(), 1.5);
+//! sheet.enter_times(0, Integral::ellipeinc(1.5, 0.0), 3)?; // the same leg, driven three times
+//! assert_eq!(sheet.total(), 4.5);
 //! # Ok::<(), Refusal>(())
 //! ```
 #![deny(unsafe_code, missing_docs)]

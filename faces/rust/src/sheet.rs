@@ -7,6 +7,8 @@ use std::fmt;
 const ROW: usize = 48;
 const EMPTY: usize = 328;
 const MOST_ROWS: u32 = 1024;
+/// The first word of a sheet whose rows keep times.
+const WITH_TIMES: u32 = 3;
 
 /// The `N` bytes at this place of bytes that have them.
 fn part<const N: usize>(bytes: &[u8], at: usize) -> [u8; N] {
@@ -28,6 +30,9 @@ fn part<const N: usize>(bytes: &[u8], at: usize) -> [u8; N] {
 /// assert_eq!(Sheet::from_bytes(&file[1..]).unwrap_err(), Refusal::NOT_A_SHEET);
 /// # Ok::<(), Refusal>(())
 /// ```
+///
+/// Each row keeps how often its leg was driven ([`enter_times`](Sheet::enter_times), [`Row::times`]). A sheet from before rows did is read like any other,
+/// each leg once, and is not edited ([`keeps_times`](Sheet::keeps_times)).
 #[derive(Clone, Debug, PartialEq, Eq)]
 pub struct Sheet<B = Vec<u8>> {
     bytes: B,
@@ -47,6 +52,26 @@ impl<B: AsRef<[u8]>> Sheet<B> {
     pub fn from_bytes(bytes: B) -> Result<Sheet<B>, Refusal> {
         accepted(face::total_refusal(bytes.as_ref()))?;
         Ok(Sheet { bytes })
+    }
+
+    /// Whether its rows keep times: its first word says 3. One that says 1 is from before they did: it is only read, and an edit to it is refused 7.
+    ///
+    /// ```
+    /// # use shuttlemint::{Integral, Refusal, Sheet};
+    /// let mut sheet = Sheet::blank(1)?;
+    /// assert!(sheet.keeps_times());
+    /// sheet.enter(0, Integral::ellipeinc(1.5, 0.0))?;
+    /// let mut bytes = sheet.into_bytes();
+    /// (bytes[0], bytes[34]) = (1, 0); // as such a sheet is: it says 1, and has zeros where times stand now
+    ///
+    /// let mut old = Sheet::from_bytes(bytes)?;
+    /// assert!(!old.keeps_times());
+    /// assert_eq!((old.total(), old.row(0)?.times()), (1.5, 1));
+    /// assert_eq!(old.clear(0), Err(Refusal::NOT_A_SHEET));
+    /// # Ok::<(), Refusal>(())
+    /// ```
+    pub fn keeps_times(&self) -> bool {
+        part(self.as_bytes(), 0) == WITH_TIMES.to_le_bytes()
     }
 
     /// How many rows it has.
@@ -70,7 +95,8 @@ impl<B: AsRef<[u8]>> Sheet<B> {
         accepted(face::row_refusal(bytes, row))?;
         let at = face::row_at(bytes, row);
         let class = Class::ALL.get(face::row_class(bytes, row)).copied();
-        Ok(Row { bytes: bytes[at..at + ROW].try_into().expect("48 bytes are a row"), class })
+        let times = face::row_times(bytes, row);
+        Ok(Row { bytes: bytes[at..at + ROW].try_into().expect("48 bytes are a row"), class, times })
     }
 
     /// All rows, from row 0 on.
@@ -84,7 +110,7 @@ impl<B: AsRef<[u8]>> Sheet<B> {
         (0..self.rows()).filter_map(move |row| self.row(row).ok())
     }
 
-    /// The exact total of the finite rows' first answers, rounded once. It can be infinite, and a zero is +0.
+    /// The exact total of the finite rows, times multiplied by first answer, rounded once. It can be infinite, and a zero is +0.
     ///
     /// ```
     /// # use shuttlemint::{Integral, Sheet};
@@ -121,7 +147,7 @@ impl<B: AsRef<[u8]> + AsMut<[u8]>> Sheet<B> {
     /// ```
     /// # use shuttlemint::{Refusal, Sheet};
     /// let mut lent = [0u8; 376];
-    /// Sheet::blank_in(&mut lent[..], 1)?.edit(0, 1, 0, 0, 0)?;
+    /// Sheet::blank_in(&mut lent[..], 1)?.edit(0, 1, 0, 0, 0, 1)?;
     /// assert_eq!(lent[32], 1);
     /// # Ok::<(), Refusal>(())
     /// ```
@@ -130,18 +156,36 @@ impl<B: AsRef<[u8]> + AsMut<[u8]>> Sheet<B> {
         Ok(Sheet { bytes })
     }
 
-    /// Works out the integral and puts it in the row, in place of what stands there. Refusals, each changing no byte: 8 for no such row, 10 for
-    /// a damaged row or damaged counts. A refusal of the integral itself, 1 to 6, is not among them: the row keeps it.
+    /// Works out the integral and puts it in the row, in place of what stands there, as a leg that was driven once. Refusals, each changing no byte: 7 for a
+    /// sheet that does not [keep times](Sheet::keeps_times), 8 for no such row, 10 for a damaged row or damaged counts. A refusal of the integral itself, 1 to 6,
+    /// is not among them: the row keeps it.
     pub fn enter(&mut self, row: u32, integral: Integral) -> Result<(), Refusal> {
-        let [a, b, c] = integral.arguments();
-        self.edit(row, integral.function(), a, b, c)
+        self.enter_times(row, integral, 1)
     }
 
-    /// [`enter`](Sheet::enter) by number and bit patterns: works out the function of this number at its arguments' bit patterns and puts it in the row, in place of what stands there.
-    /// Arguments that the function does not have are stored as 0. Refusals, in this order, each changing no byte: 8 for no such row, 9 for no
-    /// such function, 10 for a damaged row or damaged counts. A refusal of the function itself, 1 to 6, is not among them: the row keeps it.
-    pub fn edit(&mut self, row: u32, function: u8, a: u64, b: u64, c: u64) -> Result<(), Refusal> {
-        accepted(face::edit(self.bytes.as_mut(), row, function, [a, b, c]))
+    /// [`enter`](Sheet::enter) for a leg that was driven so many times; 0 keeps the leg and adds nothing to the total.
+    ///
+    /// ```
+    /// # use shuttlemint::{Class, Integral, Refusal, Sheet};
+    /// let mut sheet = Sheet::blank(2)?;
+    /// sheet.enter(0, Integral::ellipeinc(1.5, 0.0))?;
+    /// sheet.enter_times(1, Integral::ellipeinc(0.25, 0.0), 300)?;
+    /// assert_eq!(sheet.row(1)?.times(), 300);
+    /// assert_eq!(sheet.total(), 1.5 + 300.0 * 0.25);
+    /// assert_eq!(sheet.count(Class::Finite), 2); // counts are of rows
+    /// # Ok::<(), Refusal>(())
+    /// ```
+    pub fn enter_times(&mut self, row: u32, integral: Integral, times: u16) -> Result<(), Refusal> {
+        let [a, b, c] = integral.arguments();
+        self.edit(row, integral.function(), a, b, c, times)
+    }
+
+    /// [`enter_times`](Sheet::enter_times) by number and bit patterns: works out the function of this number at its arguments' bit patterns and puts it in the row, in place of what
+    /// stands there. Arguments that the function does not have are stored as 0, and so are the times of a blank row. Refusals, in this order, each changing no byte: 7 for a sheet that
+    /// does not [keep times](Sheet::keeps_times), 8 for no such row, 9 for no such function, 10 for a damaged row or damaged counts. A refusal of the function itself, 1 to 6, is not
+    /// among them: the row keeps it.
+    pub fn edit(&mut self, row: u32, function: u8, a: u64, b: u64, c: u64, times: u16) -> Result<(), Refusal> {
+        accepted(face::edit(self.bytes.as_mut(), row, function, [a, b, c], times))
     }
 
     /// Makes a row blank: an edit to function 0.
@@ -155,7 +199,7 @@ impl<B: AsRef<[u8]> + AsMut<[u8]>> Sheet<B> {
     /// # Ok::<(), Refusal>(())
     /// ```
     pub fn clear(&mut self, row: u32) -> Result<(), Refusal> {
-        self.edit(row, 0, 0, 0, 0)
+        self.edit(row, 0, 0, 0, 0, 0)
     }
 }
 
@@ -179,11 +223,12 @@ impl Class {
     pub const ALL: [Class; 5] = [Class::Blank, Class::Finite, Class::PlusInfinity, Class::MinusInfinity, Class::Refused];
 }
 
-/// A row's own 48 bytes in a sheet.
+/// A row's own 48 bytes in a sheet, and how often it was driven, which the bytes alone do not tell in a sheet that keeps no times.
 #[derive(Clone, Copy, PartialEq, Eq)]
 pub struct Row<'a> {
     bytes: &'a [u8; ROW],
     class: Option<Class>,
+    times: u16,
 }
 
 impl<'a> Row<'a> {
@@ -199,6 +244,11 @@ impl<'a> Row<'a> {
     /// Why the row has no answer, if so.
     pub fn refusal(self) -> Option<Refusal> {
         Refusal::from_number(self.bytes[1])
+    }
+
+    /// How often the leg was driven, 0 to 65,535; 0 for a blank row. In a sheet that does not [keep times](Sheet::keeps_times) every other row was driven once.
+    pub fn times(self) -> u16 {
+        self.times
     }
 
     /// The arguments' bit patterns; 0 for those that the function does not have.
@@ -247,6 +297,7 @@ impl fmt::Debug for Row<'_> {
             .field("refusal", &self.refusal())
             .field("arguments", &hex(&self.arguments()))
             .field("answers", &hex(&self.answers()))
+            .field("times", &self.times)
             .finish()
     }
 }

@@ -13,24 +13,24 @@ use Rattle.answer.specs.Numbers.{last}
 use Rattle.total.specs.Total.{N}
 use Rattle.total.specs.laws.Limbs.{N-pos}
 use Rattle.ledger.specs.Bytes.{bytes, number, fields, read, splice}
-use Rattle.ledger.specs.Sheet.{Row, rowPlace, sizeFor, entries, classOf, sound, totals, count, counts, sum, flat, encode}
-use Rattle.ledger.specs.Calls.{rowsIn, rowIn, countsIn, totalIn, equal, isSheet, miscounted, damaged, rungs, totalRefusal, revised, edited}
+use Rattle.ledger.specs.Sheet.{Row, withTimes, withoutTimes, rowPlace, sizeFor, entries, classOf, totals, count, counts, sum, flat, encode}
+use Rattle.ledger.specs.Calls.{rowsIn, rowIn, countsIn, totalIn, equal, isSheetOf, isSheet, miscounted, damaged, rungs, totalRefusal, revised, edited}
 use Rattle.sheet.specs.Edit.{editRefusal}
 use Rattle.ledger.specs.laws.Fields.{take-past, drop-past, length-bytes, length-fields, number-bytes, read-fields, fields-append}
 use Rattle.ledger.specs.laws.Refusals.{rows-of, class-lt, length-totals}
 use Rattle.demands.specs.Edits.{Edit, answer, answerIn}
-use Rattle.demands.specs.laws.Rows.{Rows, rows-set, rows-sound, length-flat, row-flat, splice-flat}
+use Rattle.demands.specs.laws.Rows.{Good, Rows, rows-set, rows-sound, length-flat, row-flat, splice-flat}
 use Rattle.demands.specs.laws.Tally.{hit-self, count-has, count-le, counts-all, counts-at, counts-set, sum-moved}
 
 -- ---- contents
-eight : (r : ℕ) → length (entries r) ≡ 8
+eight : (r : ℕ) → length (entries withTimes r) ≡ 8
 unfolding entries
 eight r = refl
 
-length-contents : (r : ℕ) → length (fields 4 (entries r)) ≡ 32
-length-contents r = length-fields 4 (entries r) ∙ ap (λ (n : ℕ). 4 * n) (eight r)
+length-contents : (r : ℕ) → length (fields 4 (entries withTimes r)) ≡ 32
+length-contents r = length-fields 4 (entries withTimes r) ∙ ap (λ (n : ℕ). 4 * n) (eight r)
 
-entries-small : (r : ℕ) → r ≤ 1024 → (i : ℕ) → getD (entries r) i 0 < 4294967296
+entries-small : (r : ℕ) → r ≤ 1024 → (i : ℕ) → getD (entries withTimes r) i 0 < 4294967296
 unfolding entries
 entries-small r h zero = omega arith
 entries-small r h (suc zero) = omega arith
@@ -83,14 +83,18 @@ module _ (ws : List Row) (r : Rows ws) (few : length ws ≤ 1024) where
   pub rows-in : rowsIn (encode ws) ≡ length ws
   rows-in = rows-of (encode ws) (length ws) length-encode
 
-  contents-in : read 4 8 (encode ws) ≡ entries (length ws)
+  contents-in : read 4 8 (encode ws) ≡ entries withTimes (length ws)
   unfolding encode
-  contents-in = ap (λ (k : ℕ). read 4 k (fields 4 (entries (length ws)) ++ (flat ws ++ totals (counts ws) (sum ws % N)))) (sym (eight (length ws))) ∙ read-fields 4 (entries (length ws)) (flat ws ++ totals (counts ws) (sum ws % N)) (entries-small (length ws) few)
+  contents-in = ap (λ (k : ℕ). read 4 k (fields 4 (entries withTimes (length ws)) ++ (flat ws ++ totals (counts ws) (sum ws % N)))) (sym (eight (length ws))) ∙ read-fields 4 (entries withTimes (length ws)) (flat ws ++ totals (counts ws) (sum ws % N)) (entries-small (length ws) few)
 
-  pub is-sheet : isSheet (encode ws) ≡ true
+  pub takes-edits : isSheetOf withTimes (encode ws) ≡ true
+  unfolding isSheetOf
+  takes-edits =
+      rw (rows-in, length-encode, eq-eqb (sizeFor (length ws)) (sizeFor (length ws)) refl, le-leb (length ws) 1024 few, contents-in) (equal-self (entries withTimes (length ws)))
+
+  is-sheet : isSheet (encode ws) ≡ true
   unfolding isSheet
-  is-sheet =
-      rw (rows-in, length-encode, eq-eqb (sizeFor (length ws)) (sizeFor (length ws)) refl, le-leb (length ws) 1024 few, contents-in) (equal-self (entries (length ws)))
+  is-sheet = rw takes-edits
 
   pub given : totalRefusal (encode ws) ≡ 0
   unfolding totalRefusal
@@ -98,12 +102,12 @@ module _ (ws : List Row) (r : Rows ws) (few : length ws ≤ 1024) where
 
   pub row-in : (i : ℕ) → i < length ws → rowIn (encode ws) i ≡ getD ws i []
   unfolding rowIn encode
-  row-in i h = rw (drop-past (fields 4 (entries (length ws))) (flat ws ++ totals (counts ws) (sum ws % N)) 32 (48 * i) (length-contents (length ws))) (row-flat r i (totals (counts ws) (sum ws % N)) h)
+  row-in i h = rw (drop-past (fields 4 (entries withTimes (length ws))) (flat ws ++ totals (counts ws) (sum ws % N)) 32 (48 * i) (length-contents (length ws))) (row-flat r i (totals (counts ws) (sum ws % N)) h)
 
   at-totals : (k : ℕ) → drop (rowPlace (length ws) + k) (encode ws) ≡ drop k (totals (counts ws) (sum ws % N))
   unfolding encode
   at-totals k =
-      rw (add-assoc 32 (48 * length ws) k, drop-past (fields 4 (entries (length ws))) (flat ws ++ totals (counts ws) (sum ws % N)) 32 (48 * length ws + k) (length-contents (length ws)))
+      rw (add-assoc 32 (48 * length ws) k, drop-past (fields 4 (entries withTimes (length ws))) (flat ws ++ totals (counts ws) (sum ws % N)) 32 (48 * length ws + k) (length-contents (length ws)))
       (drop-past (flat ws) (totals (counts ws) (sum ws % N)) (48 * length ws) k (length-flat r))
 
   pub counts-are : countsIn (encode ws) ≡ counts ws
@@ -127,23 +131,26 @@ module _ (ws : List Row) (r : Rows ws) (few : length ws ≤ 1024) where
 
   pub answers : (e : Edit) → answer (encode ws) e ≡ answerIn (length ws) e
   unfolding editRefusal rungs
-  answers e = rw (is-sheet, rows-in) (go (leb (length ws) (e .row)) refl)
+  answers e = rw (takes-edits, rows-in) (go (leb (length ws) (e .row)) refl)
     where
       go : (b : Bool) → leb (length ws) (e .row) ≡ b
           → _≡_ {A = ℕ} (cond b 8 (cond (ltb last (e .entry .function)) 9 (cond (damaged (encode ws) (e .row)) 10 0))) (cond b 8 (cond (ltb last (e .entry .function)) 9 0))
       go true h = refl
       go false h = rw (whole (e .row) (leb-false (length ws) (e .row) h))
 
-  module _ (i : ℕ) (w : Row) (h : i < length ws) (lw : length w ≡ 48) (sw : sound w ≡ true) where
-    row-spliced : splice (encode ws) (rowPlace i) w ≡ fields 4 (entries (length ws)) ++ (flat (set ws i w) ++ totals (counts ws) (sum ws % N))
+  module _ (i : ℕ) (w : Row) (h : i < length ws) (g : Good w) where
+    lw : length w ≡ 48
+    lw = g .bytes
+
+    row-spliced : splice (encode ws) (rowPlace i) w ≡ fields 4 (entries withTimes (length ws)) ++ (flat (set ws i w) ++ totals (counts ws) (sum ws % N))
     unfolding encode
     row-spliced =
-        let K = fields 4 (entries (length ws)) in
+        let K = fields 4 (entries withTimes (length ws)) in
         let X = flat ws ++ totals (counts ws) (sum ws % N) in
         rw (lw, add-assoc 32 (48 * i) 48, take-past K X 32 (48 * i) (length-contents (length ws)), drop-past K X 32 (48 * i + 48) (length-contents (length ws)))
         (append-assoc K (take (48 * i) X) (w ++ drop (48 * i + 48) X) ∙ ap (λ (z : List ℕ). K ++ z) (splice-flat r i w (totals (counts ws) (sum ws % N)) h lw))
 
-    encode-set : fields 4 (entries (length ws)) ++ (flat (set ws i w) ++ totals (counts (set ws i w)) (sum (set ws i w) % N)) ≡ encode (set ws i w)
+    encode-set : fields 4 (entries withTimes (length ws)) ++ (flat (set ws i w) ++ totals (counts (set ws i w)) (sum (set ws i w) % N)) ≡ encode (set ws i w)
     unfolding encode
     encode-set = rw (length-set ws i w)
 
@@ -151,17 +158,17 @@ module _ (ws : List Row) (r : Rows ws) (few : length ws ≤ 1024) where
     unfolding revised
     totals-new =
         rw (counts-are, total-is, row-in i h)
-        (λ j. totals (counts-set ws i w h (class-lt (getD ws i []) (rows-sound r i h)) (class-lt w sw) j) (sum-moved ws i w h j))
+        (λ j. totals (counts-set ws i w h (class-lt (getD ws i []) (rows-sound r i h)) (class-lt w (g .whole)) j) (sum-moved ws i w h j))
 
     pub edit-rows : edited (encode ws) i w ≡ encode (set ws i w)
     unfolding edited
     edit-rows =
-        let F : length (flat (set ws i w)) ≡ 48 * length ws = length-flat (rows-set r i w lw sw) ∙ ap (λ (k : ℕ). 48 * k) (length-set ws i w) in
+        let F : length (flat (set ws i w)) ≡ 48 * length ws = length-flat (rows-set r i w g) ∙ ap (λ (k : ℕ). 48 * k) (length-set ws i w) in
         rw (
           totals-new,
           rows-in,
           row-spliced,
-          splice-end (fields 4 (entries (length ws))) (flat (set ws i w)) (totals (counts ws) (sum ws % N)) (totals (counts (set ws i w)) (sum (set ws i w) % N)) (48 * length ws) (length-contents (length ws)) F
+          splice-end (fields 4 (entries withTimes (length ws))) (flat (set ws i w)) (totals (counts ws) (sum ws % N)) (totals (counts (set ws i w)) (sum (set ws i w) % N)) (48 * length ws) (length-contents (length ws)) F
               (length-totals (counts ws) (sum ws % N) refl) (length-totals (counts (set ws i w)) (sum (set ws i w) % N) refl),
         )
         encode-set

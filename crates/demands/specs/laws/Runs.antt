@@ -11,13 +11,14 @@ use lib.Dec.{eqb}
 use lib.ListN.{length, getD, set, length-set}
 use lib.Seq.{getD-set-same, getD-set-other, set-comm, ext-getD}
 use Rattle.answer.specs.Numbers.{last}
-use Rattle.ledger.specs.Sheet.{Row, mostRows, sound, encode}
+use Rattle.ledger.specs.Sheet.{Row, mostRows, encode}
 use Rattle.ledger.specs.Calls.{edited}
 use Rattle.ledger.specs.laws.Refusals.{past-rungs}
+use Rattle.sheet.specs.declared.Entry.{Entry}
 use Rattle.sheet.specs.Edit.{cleared, rowOf, editOf}
-use Rattle.sheet.specs.laws.Stored.{length-rowOf, sound-rowOf}
+use Rattle.sheet.specs.laws.Stored.{length-rowOf, sound-rowOf, times-rowOf}
 use Rattle.demands.specs.Edits.{Edit, after, run, accepted, worked, lastRow, freshFrom, fresh, blanks, AllWorked}
-use Rattle.demands.specs.laws.Rows.{Rows, none, more, rows-set}
+use Rattle.demands.specs.laws.Rows.{Good, Rows, none, more, rows-set}
 use Rattle.demands.specs.laws.Encoded.{answers, edit-rows}
 
 -- ---- an accepted edit
@@ -29,8 +30,11 @@ in-of : (r : ℕ) (e : Edit) → accepted r e ≡ true → In r e
 unfolding accepted
 in-of r e h = let t = past-rungs r (e .row) (e .entry .function) 0 (eqb-true _ _ h) in record { row = t .0; function = t .1 }
 
-sound-worked : (r : ℕ) (e : Edit) → accepted r e ≡ true → sound (worked e) ≡ true
-sound-worked r e h = sound-rowOf (e .entry) (in-of r e h .function)
+good-row : (e : Entry) → e .function ≤ last → Good (rowOf e)
+good-row e h = record { bytes = length-rowOf e; whole = sound-rowOf e h; times = times-rowOf e }
+
+good-worked : (r : ℕ) (e : Edit) → accepted r e ≡ true → Good (worked e)
+good-worked r e h = good-row (e .entry) (in-of r e h .function)
 
 -- ---- one edit, on rows
 abbrev step : List Row → Edit → List Row
@@ -47,7 +51,7 @@ step-rows : (ws : List Row) (r : Rows ws) (e : Edit) → Rows (step ws e)
 step-rows ws r e = go (accepted (length ws) e) refl
   where
     go : (t : Bool) → accepted (length ws) e ≡ t → Rows (cond t (set ws (e .row) (worked e)) ws)
-    go true h = rows-set r (e .row) (worked e) (length-rowOf (e .entry)) (sound-worked (length ws) e h)
+    go true h = rows-set r (e .row) (worked e) (good-worked (length ws) e h)
     go false h = r
 
 pub step-law : (ws : List Row) (r : Rows ws) (few : length ws ≤ mostRows) (e : Edit) → after (encode ws) e ≡ encode (step ws e)
@@ -57,7 +61,7 @@ step-law ws r few e =
     ∙ go (accepted (length ws) e) refl
   where
     go : (t : Bool) → accepted (length ws) e ≡ t → cond t (edited (encode ws) (e .row) (worked e)) (encode ws) ≡ encode (cond t (set ws (e .row) (worked e)) ws)
-    go true h = edit-rows ws r few (e .row) (worked e) (in-of (length ws) e h .row) (length-rowOf (e .entry)) (sound-worked (length ws) e h)
+    go true h = edit-rows ws r few (e .row) (worked e) (in-of (length ws) e h .row) (good-worked (length ws) e h)
     go false h = refl
 
 -- ---- a list of edits, on rows
@@ -128,7 +132,7 @@ module _ (ws : List Row) (r : Rows ws) where
 pub rows-worked : (ws : List Row) → AllWorked ws → Rows ws
 rows-worked [] h = none
 rows-worked (w ∷ ws) (x, xs) =
-    more (ap length (x .is) ∙ length-rowOf (x .entry)) (ap sound (x .is) ∙ sound-rowOf (x .entry) (x .known)) (rows-worked ws xs)
+    more {w = w} (rw (x .is) (good-row (x .entry) (x .known))) (rows-worked ws xs)
 
 pub blanks-worked : (r : ℕ) → AllWorked (blanks r)
 unfolding rowOf

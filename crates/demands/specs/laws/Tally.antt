@@ -57,7 +57,7 @@ hits (suc (suc (suc (suc (suc n))))) h = absurd (omega arith)
 all-five : {ws : List Row} → Rows ws → count 0 ws + count 1 ws + count 2 ws + count 3 ws + count 4 ws ≡ length ws
 unfolding count
 all-five none = refl
-all-five (more {w = w} {ws = ws} l s r) = omega (arith, all-five r, hits (classOf w) (class-lt w s))
+all-five (more {w = w} {ws = ws} g r) = omega (arith, all-five r, hits (classOf w) (class-lt w (g .whole)))
 
 pub counts-all : {ws : List Row} → Rows ws → plus (counts ws) ≡ length ws
 unfolding plus

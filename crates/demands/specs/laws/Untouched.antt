@@ -10,11 +10,11 @@ use lib.Dec.{eqb}
 use lib.ListN.{length, take, drop, getD, length-append, List·getD-append}
 use lib.Seq.{getD-take, getD-drop, getD-append-add, length-take-le}
 use Rattle.ledger.specs.Bytes.{splice}
-use Rattle.ledger.specs.Sheet.{Row, rowPlace, classOf}
+use Rattle.ledger.specs.Sheet.{Row, withTimes, rowPlace, classOf}
 use Rattle.ledger.specs.Calls.{rowsIn, rowIn, countsIn, revised, edited}
 use Rattle.sheet.specs.Edit.{editRefusal, editOf}
 use Rattle.ledger.specs.laws.Fields.{length-splice}
-use Rattle.ledger.specs.laws.Refusals.{Accepted, sheet-length, length-counts, length-recount, length-totals}
+use Rattle.ledger.specs.laws.Refusals.{Accepted, sheet-of-length, length-counts, length-recount, length-totals}
 use Rattle.sheet.specs.laws.Placed.{edit-accepted}
 use Rattle.sheet.specs.laws.Stored.{length-rowOf}
 use Rattle.demands.specs.Edits.{Edit, after, worked, Elsewhere}
@@ -57,16 +57,16 @@ module _ (s : List ℕ) (e : Edit) (a : Accepted s (e .row) (e .entry .function)
 
   mid-length : length mid ≡ length s
   unfolding mid
-  mid-length = length-splice s (rowPlace (e .row)) w (omega (arith, w-48, sheet-length s (a .sheet), a .row))
+  mid-length = length-splice s (rowPlace (e .row)) w (omega (arith, w-48, sheet-of-length withTimes s (a .sheet), a .row))
 
   edited-length : length (edited s (e .row) (worked e)) ≡ length s
   unfolding edited w mid T
-  edited-length = length-splice mid (rowPlace (rowsIn s)) T (omega (arith, T-296, mid-length, sheet-length s (a .sheet))) ∙ mid-length
+  edited-length = length-splice mid (rowPlace (rowsIn s)) T (omega (arith, T-296, mid-length, sheet-of-length withTimes s (a .sheet))) ∙ mid-length
 
   edited-elsewhere : (k : ℕ) → Elsewhere s e k → getD (edited s (e .row) (worked e)) k 0 ≡ getD s k 0
   unfolding edited w mid T
   edited-elsewhere k h =
-      let l = sheet-length s (a .sheet) in
+      let l = sheet-of-length withTimes s (a .sheet) in
       before-part mid T (rowPlace (rowsIn s)) k (omega (arith, mid-length)) (h .0)
       ∙ ⊎-elim (λ g. before-part s w (rowPlace (e .row)) k (omega (arith, a .row)) g) (λ g. after-part s w (rowPlace (e .row)) k (omega (arith, a .row)) (omega (arith, w-48))) (h .1)
 

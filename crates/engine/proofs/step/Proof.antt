@@ -1,6 +1,7 @@
 -- Each way through the code is one of the definition.
+use mathlib.Core.Path.{_∙_}
 use borrow.Author.Needs.{needs}
-use Rattle.engine.specs.laws.Steps.{step-idle, step-long, step-line, step-over, step-more, step-full}
+use Rattle.engine.specs.laws.Steps.{step-idle, step-end, step-over, step-more, step-full}
 use Rattle.engine.proofs.step.Statement.{statement}
 use Rattle.engine.proofs.step.Tie as tie
 
@@ -9,29 +10,8 @@ returns c =
     let a = c .before .before .before .args in
     step-idle (a .st) (a .line .now) (a .sheet .now) (a .b) (c .if1 .taken)
 
-wrapping-add-u64-requires : tie.Need-wrapping-add-u64-requires
-wrapping-add-u64-requires c κs = search needs
-
-between-requires : tie.Need-between-requires
-between-requires c κs = search needs
-
-returns-2 : tie.Need-returns-2
-returns-2 c =
-    let a = c .before .before .before .before .before .before .before .args in
-    rw (c .between .ensures)
-    (step-long (a .st) (a .line .now) (a .sheet .now) (a .b) _ (c .before .before .before .before .if1 .left) (c .before .before .before .if2 .taken) (c .before .before .if3 .taken) (c .before .wrapping-add-u64 .ensures))
-
-sub-take-line : tie.Need-sub-take-line
-sub-take-line c = search needs
-
-part-take-line-start : tie.Need-part-take-line-start
-part-take-line-start c = search needs
-
-part-take-line-end : tie.Need-part-take-line-end
-part-take-line-end c = search needs
-
-take-line-requires : tie.Need-take-line-requires
-take-line-requires c κs = search needs
+end-line-requires : tie.Need-end-line-requires
+end-line-requires c κs = search needs
 
 same-length : tie.Need-same-length
 same-length c = search needs
@@ -39,23 +19,24 @@ same-length c = search needs
 same-length-2 : tie.Need-same-length-2
 same-length-2 c = search needs
 
+returns-2 : tie.Need-returns-2
+returns-2 c =
+    let a = c .before .before .before .before .before .before .before .before .before .args in
+    c .before .before .end-line .ensures
+    ∙ step-end (a .st) (a .line .now) (a .sheet .now) (a .b) (c .before .before .before .before .before .before .if1 .left) (c .before .before .before .before .before .if2 .taken)
+
 returns-3 : tie.Need-returns-3
 returns-3 c =
-    let a = c .before .before .before .before .before .before .before .before .before .before .before .args in
-    step-line (a .st) (a .line .now) (a .sheet .now) (a .b) _ _ (c .before .before .before .before .before .before .before .before .if1 .left) (c .before .before .before .before .before .before .before .if2 .taken) (c .before .before .before .before .before .before .if3 .left) (c .before .before .take-line .ensures)
-
-returns-4 : tie.Need-returns-4
-returns-4 c =
     let a = c .before .before .before .before .before .args in
-    step-over (a .st) (a .line .now) (a .sheet .now) (a .b) (c .before .before .if1 .left) (c .before .if2 .left) (c .if4 .taken)
+    step-over (a .st) (a .line .now) (a .sheet .now) (a .b) (c .before .before .if1 .left) (c .before .if2 .left) (c .if3 .taken)
 
 longer-requires : tie.Need-longer-requires
 longer-requires c κs = search needs
 
-returns-5 : tie.Need-returns-5
-returns-5 c =
+returns-4 : tie.Need-returns-4
+returns-4 c =
     let a = c .before .before .before .before .before .before .before .args in
-    rw (c .longer .ensures) (step-full (a .st) (a .line .now) (a .sheet .now) (a .b) (c .before .before .before .before .if1 .left) (c .before .before .before .if2 .left) (c .before .if5 .taken) (c .before .before .before .before .before .before .before .pre .0))
+    rw (c .longer .ensures) (step-full (a .st) (a .line .now) (a .sheet .now) (a .b) (c .before .before .before .before .if1 .left) (c .before .before .before .if2 .left) (c .before .if4 .taken) (c .before .before .before .before .before .before .before .pre .0))
 
 slice-write-line : tie.Need-slice-write-line
 slice-write-line c = search needs
@@ -66,30 +47,24 @@ longer-requires-2 c κs = search needs
 same-length-3 : tie.Need-same-length-3
 same-length-3 c = search needs
 
-returns-6 : tie.Need-returns-6
-returns-6 c =
+returns-5 : tie.Need-returns-5
+returns-5 c =
     let a = c .before .before .before .before .before .before .before .args in
-    rw (c .longer2 .ensures) (step-more (a .st) (a .line .now) (a .sheet .now) (a .b) (c .before .before .before .before .if1 .left) (c .before .before .before .if2 .left) (c .before .before .if4 .left))
+    rw (c .longer2 .ensures) (step-more (a .st) (a .line .now) (a .sheet .now) (a .b) (c .before .before .before .before .if1 .left) (c .before .before .before .if2 .left) (c .before .before .if3 .left))
 
 pub step-spec : {M : Type 1} → statement M
 step-spec =
     tie.close
     (tie.spec
     returns
-    wrapping-add-u64-requires
-    between-requires
-    returns-2
-    sub-take-line
-    part-take-line-start
-    part-take-line-end
-    take-line-requires
+    end-line-requires
     same-length
     same-length-2
+    returns-2
     returns-3
-    returns-4
     longer-requires
-    returns-5
+    returns-4
     slice-write-line
     longer-requires-2
     same-length-3
-    returns-6)
+    returns-5)

@@ -9,27 +9,22 @@ use mathlib.Core.List.{List, [], _∷_, _++_}
 use lib.ListN.{length, take, drop, set, replicate, length-append, length-drop, length-set, length-replicate, replicate-append-replicate}
 use lib.Seq.{take-at, take-suc-set, length-take-le}
 use lib.Dec.{eqb}
-use borrow.Author.Tests.{lt-ltb, le-ltb, eq-eqb, ne-eqb, eqb-true}
+use borrow.Author.Tests.{lt-ltb, le-ltb, eq-eqb, ne-eqb}
 use Rattle.line.specs.declared.Number.{Number}
 use Rattle.line.specs.declared.Number.the-variants.{Value, Not}
 use Rattle.line.specs.declared.Line.{Line}
 use Rattle.line.specs.declared.Line.the-variants.{Edit, Malformed}
 use Rattle.line.specs.Line.{decimalOf, lineOf}
 use Rattle.line.specs.laws.Long.{below, long-count, long-line}
-use Rattle.ledger.specs.Sheet.{sizeFor, blankRow, encode}
+use Rattle.ledger.specs.Sheet.{sizeFor}
 use Rattle.ledger.specs.Calls.{blankRefusal, blankOf}
 use Rattle.sheet.specs.Edit.{editRefusal, editOf}
-use Rattle.ledger.specs.laws.Refusals.{makeable}
-use Rattle.demands.specs.Edits.{blanks}
-use Rattle.demands.specs.laws.Encoded.{length-encode}
-use Rattle.demands.specs.laws.Runs.{rows-worked, blanks-worked}
-use Rattle.demands.specs.Demand3.{elsewhere}
-use Rattle.sheet.specs.declared.Entry.{Entry}
 use Rattle.page.specs.Page.{largest}
 use Rattle.engine.specs.declared.State.{State}
 use Rattle.engine.specs.Run.{Outcome, Start, Sheet, Bad, zeros, countOn, entry, editOn, lineOn, printed}
 use Rattle.engine.specs.Machine.{longest, Held, Room, held, room, between, onPart, lineNumber, countLine, editLine, takeLine, longerOf, stepOf, printOf}
-use Rattle.engine.specs.laws.Steps.{step-idle, step-long, step-line, step-over, step-more}
+use Rattle.engine.specs.laws.Steps.{step-idle, step-end, end-long, end-taken, step-over, step-more}
+use Rattle.engine.specs.laws.Lengths.{length-zeros, length-blank, length-edit}
 
 -- ---- what is held
 
@@ -60,24 +55,6 @@ unfolding zeros
 take-zeros n m h =
     let e : m ≡ n + (m - n) = omega arith in
     rw e (rw (← replicate-append-replicate {A = ℕ} n (m - n) 0) (take-at (replicate {A = ℕ} n 0) (replicate (m - n) 0) n (length-replicate n 0)))
-
-pub length-zeros : (n : ℕ) → length (zeros n) ≡ n
-unfolding zeros
-length-zeros n = length-replicate n 0
-
--- the calls keep the sheet's length
-length-blank : (s : List ℕ) (r : ℕ) → length (blankOf s r) ≡ length s
-unfolding blankOf
-length-blank s r = by (eqb (blankRefusal s r) 0) refl where
-  by : (t : Bool) → eqb (blankRefusal s r) 0 ≡ t → length (cond t (encode (replicate r blankRow)) s) ≡ length s
-  by true e =
-      let ok : blankRefusal s r ≡ 0 = eqb-true _ _ e in
-      let n : length (blanks r) ≡ r = length-replicate r blankRow in
-      length-encode (blanks r) (rows-worked (blanks r) (blanks-worked r)) (omega (arith, makeable s r ok .0)) ∙ rw n (sym (makeable s r ok .1))
-  by false e = refl
-
-length-edit : (s : List ℕ) (row : ℕ) (e : Entry) → length (editOf s row e) ≡ length s
-length-edit s row e = elsewhere s (record { row = row; entry = e }) .0
 
 -- a call that keeps the sheet's length stores what it makes
 pub part-stored : (st : State) (m : List ℕ) (n : ℕ) (f : List ℕ → List ℕ) → n ≤ largest → length m ≡ largest → st .size ≡ n
@@ -123,10 +100,10 @@ module _ (line : List ℕ) (buffer : length line ≡ longest) where
       → Holds (room (editLine (suc k) (st .size) m x .st) line (editLine (suc k) (st .size) m x .sheet)) (suc k) (editOn (suc k) s x) []
   unfolding editLine editOn
   edit-holds k s m st held Malformed = (refl, refl)
-  edit-holds k s m st held (Edit row f a b c) =
+  edit-holds k s m st held (Edit row f a b c times) =
       let part : s ≡ take (st .size) m = sym (held .bytes) ∙ ap (λ (n : ℕ). take n m) (sym (held .size)) in
       rw part
-      (call-holds k (st .size) m (λ t. editOf t row (entry f a b c)) (omega (arith, held .size, held .fits)) (held .whole) (length-edit (take (st .size) m) row (entry f a b c))
+      (call-holds k (st .size) m (λ t. editOf t row (entry f a b c times)) (omega (arith, held .size, held .fits)) (held .whole) (length-edit (take (st .size) m) row (entry f a b c times))
       (eqb (editRefusal (take (st .size) m) row f) 0))
 
 -- ---- one byte
@@ -172,14 +149,15 @@ module _ (w : Room) (k : ℕ) (p : List ℕ) (o : Open w k p) (few : k + 1 < 2 ^
 
   -- a long one is bad
   ended-long : longest < length p → Holds (stepOf w 10) (suc k) (Bad (suc k)) []
-  ended-long h = rw (← step-long (w .st) (w .line) (w .sheet) 10 (lineNumber (w .st)) (o .good) refl (o .long h) refl) (refl, number)
+  ended-long h =
+      rw (← end-long (w .st) (w .line) (w .sheet) (lineNumber (w .st)) (o .long h) refl ∙ step-end (w .st) (w .line) (w .sheet) 10 (o .good) refl) (refl, number)
 
   ended-short : length p ≤ longest → stepOf w 10 ≡ room (takeLine (w .st) p (w .sheet) .st) (w .line) (takeLine (w .st) p (w .sheet) .sheet)
   ended-short h =
       let at : w .st .held ≡ length p = o .short h .0 in
       let is : take (w .st .held - 0) (w .line) ≡ p = rw (sub-zero, at) (o .short h .1) in
       let t : Held = takeLine (w .st) (take (w .st .held - 0) (w .line)) (w .sheet) in
-      sym (step-line (w .st) (w .line) (w .sheet) 10 (t .st) (t .sheet) (o .good) refl (omega arith) refl)
+      sym (end-taken (w .st) (w .line) (w .sheet) (t .st) (t .sheet) (omega arith) refl ∙ step-end (w .st) (w .line) (w .sheet) 10 (o .good) refl)
       ∙ ap (λ (s : List ℕ). room (takeLine (w .st) s (w .sheet) .st) (w .line) (takeLine (w .st) s (w .sheet) .sheet)) is
 
   first-line : k ≡ 0 → takeLine (w .st) p (w .sheet) ≡ countLine 1 (w .sheet) (decimalOf p)

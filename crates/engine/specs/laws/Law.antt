@@ -15,7 +15,7 @@ use Rattle.engine.specs.Run.{joined, zeros, runOf}
 use Rattle.engine.specs.Machine.{longest, Room, room, startOf, feedOf, feedAll, finishOf, printOf, outputOf}
 use Rattle.engine.specs.laws.Whole.{run-law, stop-law}
 
--- for fewer than 2^64 bytes, from zeroed memory for the sheet, and whatever the line's 72 bytes hold
+-- for fewer than 2^64 bytes, from zeroed memory for the sheet, and whatever the line's 83 bytes hold
 pub program-law : (parts : List (List ℕ)) (line : List ℕ) → length line ≡ longest → length (joined parts) < 2 ^ 64
     → let end = finishOf (feedAll (room startOf line (zeros largest)) parts) in
     printOf (end .st) (end .sheet) ≡ runOf (joined parts)

@@ -12,20 +12,25 @@ use borrow.Author.Tests.{lt-ltb, le-ltb, eq-eqb, ne-eqb}
 use Rattle.engine.specs.declared.State.{State}
 use Rattle.engine.specs.Machine.{longest, Held, Room, held, room, between, lineNumber, takeLine, longerOf, endOf, joinOf, stepOf, feedOf}
 
+-- a line end
+module _ (st : State) (line m : List ℕ) where
+  pub end-long : (k : ℕ) → longest < st .held → k ≡ lineNumber st → room (between k (st .size) true) line m ≡ endOf (room st line m)
+  unfolding endOf
+  end-long k h ek = rw ek (simp (lt-ltb longest (st .held) h))
+
+  pub end-taken : (r : State) (new : List ℕ) → st .held ≤ longest → held r new ≡ takeLine st (take (st .held - 0) line) m → room r line new ≡ endOf (room st line m)
+  unfolding endOf
+  end-taken r new h f = ap (λ (x : Held). room (x .st) line (x .sheet)) f ∙ rw (sub-zero (st .held)) (simp (le-ltb longest (st .held) h))
+
+-- any byte
 module _ (st : State) (line m : List ℕ) (b : ℕ) where
   pub step-idle : st .bad ≡ true → room st line m ≡ stepOf (room st line m) b
   unfolding stepOf
   step-idle h = simp h
 
-  pub step-long : (k : ℕ) → st .bad ≡ false → b ≡ 10 → longest < st .held → k ≡ lineNumber st → room (between k (st .size) true) line m ≡ stepOf (room st line m) b
-  unfolding stepOf endOf
-  step-long k good e h ek = rw ek (simp (good, eq-eqb b 10 e, lt-ltb longest (st .held) h))
-
-  pub step-line : (r : State) (new : List ℕ) → st .bad ≡ false → b ≡ 10 → st .held ≤ longest → held r new ≡ takeLine st (take (st .held - 0) line) m
-      → room r line new ≡ stepOf (room st line m) b
-  unfolding stepOf endOf
-  step-line r new good e h f =
-      ap (λ (x : Held). room (x .st) line (x .sheet)) f ∙ rw (sub-zero (st .held)) (simp (good, eq-eqb b 10 e, le-ltb longest (st .held) h))
+  pub step-end : st .bad ≡ false → b ≡ 10 → endOf (room st line m) ≡ stepOf (room st line m) b
+  unfolding stepOf
+  step-end good e = simp (good, eq-eqb b 10 e)
 
   pub step-over : st .bad ≡ false → (b ≡ 10 → ⊥) → longest < st .held → room st line m ≡ stepOf (room st line m) b
   unfolding stepOf joinOf

@@ -1,7 +1,8 @@
 -- Refused, with no byte changed, or stored.
 use mathlib.Core.Path.{_∙_, sym}
 use Rattle.ledger.specs.Bytes.{fields}
-use Rattle.ledger.specs.laws.Refusals.{placed, sheet-length, sheet-few, class-lt}
+use Rattle.ledger.specs.Sheet.{withTimes}
+use Rattle.ledger.specs.laws.Refusals.{placed, sheet-of-length, sheet-of-few, class-lt}
 use Rattle.ledger.proofs.Answered.{place-refused, place-stored}
 use borrow.Author.Needs.{needs}
 use Rattle.ledger.proofs.checks.refusal_of_place.Reads as refusal-of-place-reads
@@ -29,7 +30,7 @@ store-requires c κs =
     let s = a .sheet .now in
     let w = fields 8 (a .words) in
     let k = placed s (a .row) w (sym (c .before .before .refusal-of-place .ensures) ∙ c .before .if1 .left) in
-    (sheet-length s (k .0 .sheet), sheet-few s (k .0 .sheet), k .0 .row, k .0 .whole, class-lt w (k .1))
+    (sheet-of-length withTimes s (k .0 .sheet), sheet-of-few withTimes s (k .0 .sheet), k .0 .row, k .0 .whole, class-lt w (k .1))
 
 same-length-2 : tie.Need-same-length-2
 same-length-2 c = search needs

@@ -4,7 +4,7 @@ use mathlib.Core.List.{List}
 use Prim.Native.Nat.{ℕ}
 use lib.ListN.{length}
 use Rattle.ledger.specs.Bytes.{fields, splice}
-use Rattle.ledger.specs.Sheet.{rowPlace, classOf, valueOf}
+use Rattle.ledger.specs.Sheet.{rowPlace, timesIn, classOf, valueOf}
 use Rattle.ledger.specs.Calls.{rowsIn, rowIn, revised}
 use Rattle.ledger.specs.laws.Refusals.{undamaged}
 use Rattle.ledger.specs.laws.Rows.{length-words}
@@ -68,7 +68,7 @@ returns c =
     let was = c .before .before .before .before .before .before .before .before .before .before .before .before .row-part .ensures in
     let is = c .before .before .before .before .before .row-part2 .ensures ∙ ap (λ (l : List ℕ). rowIn l i) put ∙ row-back s w i (a .pre .0) (a .pre .2) e in
     edited-is s w i (a .pre .0) (a .pre .2) e (c .before .before .revise .last .0)
-    (c .before .before .revise .ensures (rowIn s i) w (old .0 ∙ ap classOf was, old .1 ∙ ap valueOf was) (new .0 ∙ ap classOf is, new .1 ∙ ap valueOf is)
+    (c .before .before .revise .ensures (rowIn s i) w (old .0 ∙ ap classOf was, old .1 ∙ ap valueOf was, old .2 ∙ ap timesIn was) (new .0 ∙ ap classOf is, new .1 ∙ ap valueOf is, new .2 ∙ ap timesIn is)
     ∙ ap (λ (l : List ℕ). splice l (rowPlace (rowsIn l)) (revised l (rowIn s i) w)) put)
 
 pub store-spec : {M : Type 1} → statement M

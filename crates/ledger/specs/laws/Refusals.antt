@@ -7,19 +7,23 @@ use native.Mathlib.Nat.{pos-of-ne-zero}
 use native.Mathlib.Omega.{arith}
 use borrow.Author.Tests.{eqb-true, eqb-false, leb-true, leb-false, ltb-false, not-true}
 use lib.Dec.{leb, ltb, eqb}
-use lib.ListN.{length, drop, getD, set, length-append, length-set}
+use lib.ListN.{length, take, drop, getD, set, length-append, length-set}
 use lib.Ieee.{Float, nan, inf, fin, isNan}
 use Rattle.answer.specs.Numbers.{last, stored}
-use Rattle.ledger.specs.Bytes.{read}
+use Rattle.ledger.specs.Bytes.{number, read}
 use Rattle.ledger.specs.laws.Fields.{length-read, length-bytes, length-fields}
-use Rattle.ledger.specs.Sheet.{Row, mostRows, rowPlace, sizeFor, entries, functionIn, refusalIn, firstIn, soundOf, sound, kindOf, classOf, totals}
-use Rattle.ledger.specs.Calls.{Sized, rowsIn, rowIn, countsIn, equal, isSheet, plus, miscounted, damaged, rungs, recount, rowRefusal, placeRefusal, blankRefusal}
+use Rattle.ledger.specs.Sheet.{Row, withoutTimes, withTimes, mostRows, rowPlace, sizeFor, entries, functionIn, refusalIn, firstIn, soundOf, sound, kindOf, classOf, totals}
+use Rattle.ledger.specs.Calls.{Sized, rowsIn, rowIn, countsIn, equal, isSheetOf, isSheet, plus, miscounted, damaged, rowRungs, rungs, recount, rowRefusal, placeRefusal, blankRefusal}
 
 -- ---- tests joined
 and-3 : (a b c : Bool) → (a && (b && c)) ≡ true → (a ≡ true) × (b ≡ true) × (c ≡ true)
 and-3 true true c h = (refl, refl, h)
 and-3 true false c h = absurd (false≢true h)
 and-3 false b c h = absurd (false≢true h)
+
+and-first : (a b : Bool) → (a && b) ≡ true → a ≡ true
+and-first true b h = refl
+and-first false b h = absurd (false≢true h)
 
 or-3 : (a b c : Bool) → (not a || (not b || c)) ≡ false → (a ≡ true) × (b ≡ true) × (c ≡ false)
 or-3 true true c h = (refl, refl, h)
@@ -44,16 +48,41 @@ pub rows-of : (s : List ℕ) (r : ℕ) → length s ≡ sizeFor r → rowsIn s �
 unfolding rowsIn
 rows-of s r h = omega arith
 
-module _ (s : List ℕ) (h : isSheet s ≡ true) where
-  tests : (leb (rowsIn s) mostRows ≡ true) × (eqb (length s) (sizeFor (rowsIn s)) ≡ true) × (equal (read 4 8 s) (entries (rowsIn s)) ≡ true)
-  unfolding isSheet
-  tests = and-3 (leb (rowsIn s) mostRows) (eqb (length s) (sizeFor (rowsIn s))) (equal (read 4 8 s) (entries (rowsIn s))) h
+-- of a sheet that says k
+module _ (k : ℕ) (s : List ℕ) (h : isSheetOf k s ≡ true) where
+  tests : (leb (rowsIn s) mostRows ≡ true) × (eqb (length s) (sizeFor (rowsIn s)) ≡ true) × (equal (read 4 8 s) (entries k (rowsIn s)) ≡ true)
+  unfolding isSheetOf
+  tests = and-3 (leb (rowsIn s) mostRows) (eqb (length s) (sizeFor (rowsIn s))) (equal (read 4 8 s) (entries k (rowsIn s))) h
 
-  pub sheet-few : rowsIn s ≤ mostRows
-  sheet-few = leb-true _ _ (tests .0)
+  pub sheet-of-few : rowsIn s ≤ mostRows
+  sheet-of-few = leb-true _ _ (tests .0)
 
-  pub sheet-length : Sized s
-  sheet-length = eqb-true _ _ (tests .1)
+  pub sheet-of-length : Sized s
+  sheet-of-length = eqb-true _ _ (tests .1)
+
+  pub says : number (take 4 s) ≡ k
+  unfolding equal read entries
+  says = eqb-true _ _ (and-first _ _ (tests .2))
+
+-- of either
+either : (A : Type 0) (s : List ℕ) → ((k : ℕ) → isSheetOf k s ≡ true → A) → isSheet s ≡ true → A
+unfolding isSheet
+either A s f h = go (isSheetOf withTimes s) refl h
+  where
+    go : (b : Bool) → isSheetOf withTimes s ≡ b → (b || isSheetOf withoutTimes s) ≡ true → A
+    go true e g = f withTimes e
+    go false e g = f withoutTimes g
+
+pub sheet-few : (s : List ℕ) → isSheet s ≡ true → rowsIn s ≤ mostRows
+sheet-few s h = either (rowsIn s ≤ mostRows) s (λ k. sheet-of-few k s) h
+
+pub sheet-length : (s : List ℕ) → isSheet s ≡ true → Sized s
+sheet-length s h = either (Sized s) s (λ k. sheet-of-length k s) h
+
+-- what may be edited may be read
+pub sheet-with-times : (s : List ℕ) → isSheetOf withTimes s ≡ true → isSheet s ≡ true
+unfolding isSheet
+sheet-with-times s h = rw h
 
 -- ---- a row that is not damaged
 kind-lt : (x : Float) → isNan x ≡ false → kindOf x < 5
@@ -87,7 +116,7 @@ undamaged s i h =
 
 -- nothing refuses row i, for a new row of function f
 pub record Accepted (s : List ℕ) (i f : ℕ) : Type 0 where
-  pub sheet : isSheet s ≡ true
+  pub sheet : isSheetOf withTimes s ≡ true
   pub row : i < rowsIn s
   pub function : f ≤ last
   pub whole : damaged s i ≡ false
@@ -125,20 +154,23 @@ neither false b h = absurd (false≢true (sym h))
 pub placed : (s : List ℕ) (i : ℕ) (w : Row) → placeRefusal s i w ≡ 0 → Accepted s i (functionIn w) × (sound w ≡ true)
 unfolding placeRefusal
 placed s i w h =
-    let a = past-7 (isSheet s) (rungs (rowsIn s) i (functionIn w) (cond (not (sound w) || damaged s i) 10 0)) h in
+    let a = past-7 (isSheetOf withTimes s) (rungs (rowsIn s) i (functionIn w) (cond (not (sound w) || damaged s i) 10 0)) h in
     let b = past-rungs (rowsIn s) i (functionIn w) (cond (not (sound w) || damaged s i) 10 0) (a .1) in
     let c = neither (sound w) (damaged s i) (past-10 (not (sound w) || damaged s i) (b .2)) in
     (record { sheet = a .0; row = b .0; function = b .1; whole = c .1 }, c .0)
 
-pub readable : (s : List ℕ) (i : ℕ) → rowRefusal s i ≡ 0 → (isSheet s ≡ true) × (i < rowsIn s)
-unfolding rowRefusal
-readable s i h =
-    let t = go (isSheet s) (leb (rowsIn s) i) h in (t .0, leb-false _ _ (t .1))
+pub past-row : (b : Bool) (r i : ℕ) → rowRungs b r i ≡ 0 → (b ≡ true) × (i < r)
+past-row b r i h =
+    let t = go b (leb r i) h in (t .0, leb-false _ _ (t .1))
   where
     go : (p q : Bool) → _≡_ {A = ℕ} (cond (not p) 7 (cond q 8 0)) 0 → (p ≡ true) × (q ≡ false)
     go true false e = (refl, refl)
     go true true e = absurd (omega arith)
     go false q e = absurd (omega arith)
+
+pub readable : (s : List ℕ) (i : ℕ) → rowRefusal s i ≡ 0 → (isSheet s ≡ true) × (i < rowsIn s)
+unfolding rowRefusal
+readable s i h = past-row (isSheet s) (rowsIn s) i h
 
 pub makeable : (s : List ℕ) (r : ℕ) → blankRefusal s r ≡ 0 → (r ≤ mostRows) × (length s ≡ sizeFor r)
 unfolding blankRefusal

@@ -2,22 +2,33 @@
 use mathlib.Core.Path.{_≡_, refl, ap, _∙_, sym}
 use mathlib.Core.List.{List, [], _∷_}
 use Prim.Native.Nat.{ℕ, _+_, _*_, _/_, _%_, _^_, _<_}
+use native.Mathlib.Nat.{div-div-eq-div-mul}
 use native.Mathlib.Omega.{arith}
 use lib.ListN.{length, take, drop, getD}
 use Rattle.laws.specs.Arithmetic.{float}
 use Rattle.ledger.specs.Bytes.{bytes, number, fields}
-use Rattle.ledger.specs.Sheet.{functionIn, refusalIn, firstIn, rowBytes}
+use Rattle.ledger.specs.Sheet.{functionIn, refusalIn, timesIn, firstIn, rowBytes}
 use Rattle.ledger.specs.laws.Fields.{length-fields, number-bytes}
 
--- the first word is function and refusal number
-pub row-words : (f q : ℕ) (xs : List ℕ) → f < 256 → q < 256 → fields 8 ((f + 256 * q) ∷ xs) ≡ rowBytes f q xs
+-- the first word is function, refusal number and times
+pub row-words : (f q k : ℕ) (xs : List ℕ) → f < 256 → q < 256 → k < 65536 → fields 8 ((f + 256 * q + 65536 * k) ∷ xs) ≡ rowBytes f q k xs
 unfolding fields rowBytes bytes
-row-words f q xs h g =
-    let a : (f + 256 * q) % 256 ≡ f = omega arith in
-    let b : (f + 256 * q) / 256 ≡ q = omega arith in
-    let c : q % 256 ≡ q = omega arith in
-    let d : q / 256 ≡ 0 = omega arith in
-    rw (a, b, c, d)
+row-words f q k xs h g l =
+    let a : (f + 256 * q + 65536 * k) % 256 ≡ f = omega arith in
+    let b : (f + 256 * q + 65536 * k) / 256 ≡ q + 256 * k = omega arith in
+    let c : (q + 256 * k) % 256 ≡ q = omega arith in
+    let d : (q + 256 * k) / 256 ≡ k = omega arith in
+    let e : k / 256 / 256 ≡ 0 = omega arith in
+    rw (a, b, c, d, e)
+
+-- what is kept of times
+two-bytes : (k : ℕ) → number (bytes 2 k) ≡ k % 65536
+unfolding number bytes
+two-bytes k = omega arith
+
+pub times-row : (f q k : ℕ) (xs : List ℕ) → timesIn (rowBytes f q k xs) ≡ k % 65536
+unfolding timesIn rowBytes bytes
+times-row f q k xs = two-bytes k
 
 pub length-words : (l : List ℕ) → length l ≡ 6 → length (fields 8 l) ≡ 48
 length-words l h = length-fields 8 l ∙ ap (λ (n : ℕ). 8 * n) h
@@ -31,6 +42,11 @@ pub refusal-words : (l : List ℕ) → length l ≡ 6 → getD l 0 0 / 256 % 256
 unfolding refusalIn fields bytes
 refusal-words [] h = absurd (let z : ⊥ = omega arith in z)
 refusal-words (x ∷ l) h = refl
+
+pub times-words : (l : List ℕ) → length l ≡ 6 → getD l 0 0 / 65536 % 65536 ≡ timesIn (fields 8 l)
+unfolding timesIn fields bytes
+times-words [] h = absurd (let z : ⊥ = omega arith in z)
+times-words (x ∷ l) h = ap (λ (n : ℕ). n % 65536) (sym (div-div-eq-div-mul x 256 256)) ∙ sym (two-bytes (x / 256 / 256))
 
 -- the fifth is the first answer
 fifth : (l : List ℕ) → length l ≡ 6 → bytes 8 (getD l 4 0) ≡ take 8 (drop 32 (fields 8 l))

@@ -9,8 +9,8 @@ use lib.Ieee.Bits.{ofBits-fits}
 use Rattle.laws.specs.Arithmetic.{+0}
 use Rattle.total.specs.Total.{N, complement, unitsOf, addOf, takeOf}
 use Rattle.total.specs.laws.Limbs.{N-pos}
-use Rattle.total.specs.laws.Units.{size-lt, taken-units}
-use Rattle.ledger.specs.Sheet.{Row, firstIn, classOf, valueOf, negativeIn, sizeIn, unitsIn, retotal}
+use Rattle.total.specs.laws.Units.{times-size-lt, taken-units}
+use Rattle.ledger.specs.Sheet.{Row, timesIn, firstIn, classOf, valueOf, negativeIn, sizeIn, unitsIn, retotal}
 
 value-fits : (w : Row) → T (fits binary64 (valueOf w))
 unfolding valueOf firstIn
@@ -20,17 +20,18 @@ value-fits w = go (eqb (classOf w) 1)
     go true = ofBits-fits binary64 _
     go false = ofBits-fits binary64 0
 
-pub size-in-lt : (w : Row) → sizeIn w < 2 ^ 2098
+pub size-in-lt : (w : Row) → timesIn w < 2 ^ 16 → sizeIn w < 2 ^ 2114
 unfolding sizeIn
-size-in-lt w = size-lt (valueOf w) (value-fits w)
+size-in-lt w h = times-size-lt (timesIn w) (valueOf w) h (value-fits w)
 
 pub units-in-le : (w : Row) → unitsIn w ≤ N
 unfolding unitsIn
 units-in-le w = le-of-lt (mod-lt (complement (negativeIn w) (sizeIn w)) N-pos)
 
--- the old value taken away, and then the new one added
-pub retotal-is : (t : ℕ) (o n : Row) → addOf (takeOf t (valueOf o)) (valueOf n) ≡ retotal t o n
+-- the old row's value taken away as often as it was driven, and then the new one's added
+pub retotal-is : (t : ℕ) (o n : Row) → timesIn o < 2 ^ 16 → addOf (takeOf t (timesIn o) (valueOf o)) (timesIn n) (valueOf n) ≡ retotal t o n
 unfolding addOf retotal unitsIn sizeIn unitsOf
-retotal-is t o n =
-    ap (λ (k : ℕ). (k + unitsOf (valueOf n)) % N) (taken-units t (valueOf o) (value-fits o))
-    ∙ mod-add-mod (t + (N - unitsOf (valueOf o))) N (unitsOf (valueOf n))
+retotal-is t o n h =
+    let u = unitsOf (timesIn o) (valueOf o) in
+    let v = unitsOf (timesIn n) (valueOf n) in
+    ap (λ (k : ℕ). (k + v) % N) (taken-units t (timesIn o) (valueOf o) h (value-fits o)) ∙ mod-add-mod (t + (N - u)) N v

@@ -1,4 +1,4 @@
--- Each number that is none ends it as the definition's `given` does; the two tests are the definition's.
+-- Each number that is none ends it as the definition's `given` does; the three tests are the definition's.
 use borrow.Author.Needs.{needs}
 use borrow.Author.Tests.{le-leb, lt-leb}
 use Rattle.line.specs.Line.{given, editFrom}
@@ -69,41 +69,74 @@ returns-5 c =
     let at-row = at-function .before .before .before in
     simp (c .enum-told5 .given .1, at-b .b .given .1, at-a .a .given .1, at-function .function .given .1, at-row .row .given .1)
 
+enum-known-times : tie.Need-enum-known-times
+enum-known-times c = search needs
+
+enum-told-6 : tie.Need-enum-told-6
+enum-told-6 c = search needs
+
 returns-6 : tie.Need-returns-6
 unfolding editFrom given
 returns-6 c =
-    let at-c = c .before .before in
+    let at-c = c .before .before .before in
     let at-b = at-c .before .before .before in
     let at-a = at-b .before .before .before in
     let at-function = at-a .before .before .before in
     let at-row = at-function .before .before .before in
-    simp (at-c .c .given .1, at-b .b .given .1, at-a .a .given .1, at-function .function .given .1, at-row .row .given .1, le-leb _ _ (c .if1 .taken))
+    simp (c .enum-told6 .given .1, at-c .c .given .1, at-b .b .given .1, at-a .a .given .1, at-function .function .given .1, at-row .row .given .1)
 
 returns-7 : tie.Need-returns-7
 unfolding editFrom given
 returns-7 c =
-    let at-c = c .before .before .before in
+    let at-times = c .before .before in
+    let at-c = at-times .before .before .before in
     let at-b = at-c .before .before .before in
     let at-a = at-b .before .before .before in
     let at-function = at-a .before .before .before in
     let at-row = at-function .before .before .before in
-    simp (at-c .c .given .1, at-b .b .given .1, at-a .a .given .1, at-function .function .given .1, at-row .row .given .1, lt-leb _ _ (c .before .if1 .left), le-leb _ _ (c .if2 .taken))
-
-cast-t12 : tie.Need-cast-t12
-cast-t12 c = search needs
-
-cast-t13 : tie.Need-cast-t13
-cast-t13 c = search needs
+    simp (at-times .times .given .1, at-c .c .given .1, at-b .b .given .1, at-a .a .given .1, at-function .function .given .1, at-row .row .given .1, le-leb _ _ (c .if1 .taken))
 
 returns-8 : tie.Need-returns-8
 unfolding editFrom given
 returns-8 c =
-    let at-c = c .before .before .before in
+    let at-times = c .before .before .before in
+    let at-c = at-times .before .before .before in
     let at-b = at-c .before .before .before in
     let at-a = at-b .before .before .before in
     let at-function = at-a .before .before .before in
     let at-row = at-function .before .before .before in
-    simp (at-c .c .given .1, at-b .b .given .1, at-a .a .given .1, at-function .function .given .1, at-row .row .given .1, lt-leb _ _ (c .before .if1 .left), lt-leb _ _ (c .if2 .left))
+    simp (at-times .times .given .1, at-c .c .given .1, at-b .b .given .1, at-a .a .given .1, at-function .function .given .1, at-row .row .given .1, lt-leb _ _ (c .before .if1 .left), le-leb _ _ (c .if2 .taken))
+
+returns-9 : tie.Need-returns-9
+unfolding editFrom given
+returns-9 c =
+    let at-times = c .before .before .before .before in
+    let at-c = at-times .before .before .before in
+    let at-b = at-c .before .before .before in
+    let at-a = at-b .before .before .before in
+    let at-function = at-a .before .before .before in
+    let at-row = at-function .before .before .before in
+    simp (at-times .times .given .1, at-c .c .given .1, at-b .b .given .1, at-a .a .given .1, at-function .function .given .1, at-row .row .given .1, lt-leb _ _ (c .before .before .if1 .left), lt-leb _ _ (c .before .if2 .left), le-leb _ _ (c .if3 .taken))
+
+cast-t14 : tie.Need-cast-t14
+cast-t14 c = search needs
+
+cast-t15 : tie.Need-cast-t15
+cast-t15 c = search needs
+
+cast-t16 : tie.Need-cast-t16
+cast-t16 c = search needs
+
+returns-10 : tie.Need-returns-10
+unfolding editFrom given
+returns-10 c =
+    let at-times = c .before .before .before .before in
+    let at-c = at-times .before .before .before in
+    let at-b = at-c .before .before .before in
+    let at-a = at-b .before .before .before in
+    let at-function = at-a .before .before .before in
+    let at-row = at-function .before .before .before in
+    simp (at-times .times .given .1, at-c .c .given .1, at-b .b .given .1, at-a .a .given .1, at-function .function .given .1, at-row .row .given .1, lt-leb _ _ (c .before .before .if1 .left), lt-leb _ _ (c .before .if2 .left), lt-leb _ _ (c .if3 .left))
 
 pub edit-from-spec : {M : Type 1} → statement M
 edit-from-spec =
@@ -124,8 +157,13 @@ edit-from-spec =
     enum-known-c
     enum-told-5
     returns-5
+    enum-known-times
+    enum-told-6
     returns-6
     returns-7
-    cast-t12
-    cast-t13
-    returns-8)
+    returns-8
+    returns-9
+    cast-t14
+    cast-t15
+    cast-t16
+    returns-10)

@@ -1,4 +1,4 @@
--- A line of more than 72 bytes is malformed whatever it says, so a reader need not keep it. Assumes nothing.
+-- A line of more than 83 bytes is malformed whatever it says, so a reader need not keep it. Assumes nothing.
 use mathlib.Core.Path.{_≡_, refl, ap, _∙_}
 use Prim.Native.Nat.{ℕ, zero, suc, _+_, _≤_, _<_}
 use native.Mathlib.Omega.{arith}
@@ -27,28 +27,36 @@ unfolding given
 spoilt Not next h = refl
 spoilt (Value n) next h = h n
 
-module _ (row function a b c : Number) where
-  pub no-row : row ≡ Not → editFrom row function a b c ≡ Malformed
+module _ (row function a b c times : Number) where
+  pub no-row : row ≡ Not → editFrom row function a b c times ≡ Malformed
   unfolding editFrom given
   no-row e = rw e refl
 
-  pub no-function : function ≡ Not → editFrom row function a b c ≡ Malformed
+  pub no-function : function ≡ Not → editFrom row function a b c times ≡ Malformed
   unfolding editFrom given
   no-function e = rw e (spoilt row _ (λ _. refl))
 
-  pub no-first : a ≡ Not → editFrom row function a b c ≡ Malformed
+  pub no-first : a ≡ Not → editFrom row function a b c times ≡ Malformed
   unfolding editFrom given
   no-first e = rw e (spoilt row _ (λ _. spoilt function _ (λ _. refl)))
 
-  pub no-second : b ≡ Not → editFrom row function a b c ≡ Malformed
+  pub no-second : b ≡ Not → editFrom row function a b c times ≡ Malformed
   unfolding editFrom given
   no-second e = rw e (spoilt row _ (λ _. spoilt function _ (λ _. spoilt a _ (λ _. refl))))
 
-  pub no-third : c ≡ Not → editFrom row function a b c ≡ Malformed
+  pub no-third : c ≡ Not → editFrom row function a b c times ≡ Malformed
   unfolding editFrom given
   no-third e = rw e (spoilt row _ (λ _. spoilt function _ (λ _. spoilt a _ (λ _. spoilt b _ (λ _. refl)))))
 
--- ---- long fields are no numbers
+  pub no-times : times ≡ Not → editFrom row function a b c times ≡ Malformed
+  unfolding editFrom given
+  no-times e = rw e (spoilt row _ (λ _. spoilt function _ (λ _. spoilt a _ (λ _. spoilt b _ (λ _. spoilt c _ (λ _. refl))))))
+
+-- ---- empty and long fields are no numbers
+
+pub decimal-none : decimalOf [] ≡ Not
+unfolding decimalOf
+decimal-none = refl
 
 pub decimal-long : (s : List ℕ) → 10 < length s → decimalOf s ≡ Not
 unfolding decimalOf
@@ -101,42 +109,44 @@ room-drop [] (suc k) = omega arith
 room-drop (p ∷ ps) zero = omega arith
 room-drop (p ∷ ps) (suc k) = room-drop ps k
 
--- five fields of a long line: one of them is long
-room-five : (s : List ℕ) (ps : List (List ℕ)) → ps ≡ fieldsOf s → length ps ≡ 5
-    → length s ≤ length (getD ps 0 []) + length (getD ps 1 []) + length (getD ps 2 []) + length (getD ps 3 []) + length (getD ps 4 []) + 4
+-- six fields of a long line: one of them is long
+room-six : (s : List ℕ) (ps : List (List ℕ)) → ps ≡ fieldsOf s → length ps ≡ 6
+    → length s ≤ length (getD ps 0 []) + length (getD ps 1 []) + length (getD ps 2 []) + length (getD ps 3 []) + length (getD ps 4 []) + length (getD ps 5 []) + 5
 unfolding room
-room-five s ps e five =
+room-six s ps e six =
     let whole : room ps ≡ suc (length s) = rw e (room-fields s) in
-    let all : length ps ≤ 5 = omega arith in
-    let none : room (drop 5 ps) ≡ 0 = rw (drop-of-length-le ps all) refl in
+    let all : length ps ≤ 6 = omega arith in
+    let none : room (drop 6 ps) ≡ 0 = rw (drop-of-length-le ps all) refl in
     let a = room-drop ps 0 in
     let b = room-drop ps 1 in
     let c = room-drop ps 2 in
     let d = room-drop ps 3 in
     let f = room-drop ps 4 in
+    let g = room-drop ps 5 in
     omega arith
 
 -- ---- the laws
 
-pub long-count : (s : List ℕ) → 72 < length s → decimalOf s ≡ Not
+pub long-count : (s : List ℕ) → 83 < length s → decimalOf s ≡ Not
 long-count s h = decimal-long s (omega arith)
 
-pub long-line : (s : List ℕ) → 72 < length s → lineOf s ≡ Malformed
+pub long-line : (s : List ℕ) → 83 < length s → lineOf s ≡ Malformed
 unfolding lineOf
-long-line s h = by (eqb (length (fieldsOf s)) 5) refl where
+long-line s h = by (eqb (length (fieldsOf s)) 6) refl where
   ps : List (List ℕ)
   ps = fieldsOf s
 
   edit : Line
-  edit = editFrom (decimalOf (getD ps 0 [])) (decimalOf (getD ps 1 [])) (patternOf (getD ps 2 [])) (patternOf (getD ps 3 [])) (patternOf (getD ps 4 []))
+  edit = editFrom (decimalOf (getD ps 0 [])) (decimalOf (getD ps 1 [])) (patternOf (getD ps 2 [])) (patternOf (getD ps 3 [])) (patternOf (getD ps 4 [])) (decimalOf (getD ps 5 []))
 
-  by : (t : Bool) → eqb (length (fieldsOf s)) 5 ≡ t → cond t edit Malformed ≡ Malformed
+  by : (t : Bool) → eqb (length (fieldsOf s)) 6 ≡ t → cond t edit Malformed ≡ Malformed
   by true e =
-      let five = room-five s ps refl (eqb-true _ _ e) in
-      below 10 (length (getD ps 0 [])) (λ k. no-row _ _ _ _ _ (decimal-long (getD ps 0 []) k)) λ k₀.
-      below 10 (length (getD ps 1 [])) (λ k. no-function _ _ _ _ _ (decimal-long (getD ps 1 []) k)) λ k₁.
-      below 16 (length (getD ps 2 [])) (λ k. no-first _ _ _ _ _ (pattern-other (getD ps 2 []) (λ e. omega arith))) λ k₂.
-      below 16 (length (getD ps 3 [])) (λ k. no-second _ _ _ _ _ (pattern-other (getD ps 3 []) (λ e. omega arith))) λ k₃.
-      below 16 (length (getD ps 4 [])) (λ k. no-third _ _ _ _ _ (pattern-other (getD ps 4 []) (λ e. omega arith))) λ k₄.
+      let six = room-six s ps refl (eqb-true _ _ e) in
+      below 10 (length (getD ps 0 [])) (λ k. no-row _ _ _ _ _ _ (decimal-long (getD ps 0 []) k)) λ k₀.
+      below 10 (length (getD ps 1 [])) (λ k. no-function _ _ _ _ _ _ (decimal-long (getD ps 1 []) k)) λ k₁.
+      below 16 (length (getD ps 2 [])) (λ k. no-first _ _ _ _ _ _ (pattern-other (getD ps 2 []) (λ e. omega arith))) λ k₂.
+      below 16 (length (getD ps 3 [])) (λ k. no-second _ _ _ _ _ _ (pattern-other (getD ps 3 []) (λ e. omega arith))) λ k₃.
+      below 16 (length (getD ps 4 [])) (λ k. no-third _ _ _ _ _ _ (pattern-other (getD ps 4 []) (λ e. omega arith))) λ k₄.
+      below 10 (length (getD ps 5 [])) (λ k. no-times _ _ _ _ _ _ (decimal-long (getD ps 5 []) k)) λ k₅.
       absurd (omega arith)
   by false e = refl

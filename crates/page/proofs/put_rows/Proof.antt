@@ -1,4 +1,4 @@
--- The lines so far stand in the buffer, at most 48 bytes a row.
+-- The lines so far stand in the buffer, at most 54 bytes a row.
 use mathlib.Core.Path.{_≡_, _∙_}
 use Prim.Native.Nat.{_*_, _-_, _≤_}
 use native.Mathlib.Omega.{arith}
@@ -11,7 +11,7 @@ use Rattle.page.proofs.put_rows.Statement.{statement}
 use Rattle.page.proofs.put_rows.Tie as tie
 
 abbrev Inv-loop : tie.InvT-loop
-Inv-loop out₀ sheet rows i₀ at₀ out i at = (i ≤ rows) × (at ≤ 48 * i) × (length out ≡ length out₀) × Put out₀ out 0 at (rowLines sheet i)
+Inv-loop out₀ sheet rows i₀ at₀ out i at = (i ≤ rows) × (at ≤ 54 * i) × (length out ≡ length out₀) × Put out₀ out 0 at (rowLines sheet i)
 
 abbrev μ-loop : tie.MeasureT-loop
 μ-loop out₀ sheet rows i₀ at₀ out i at = rows - i

@@ -13,7 +13,7 @@ use Rattle.line.specs.declared.Line.{Line}
 use Rattle.line.specs.declared.Line.the-variants.{Edit, Malformed}
 use Rattle.line.specs.Line.{decimalOf, lineOf}
 use Rattle.engine.specs.declared.State.{State}
-use Rattle.engine.specs.Machine.{Held, Room, lineNumber, countLine, editLine, takeLine, endOf, joinOf, stepOf, feedOf}
+use Rattle.engine.specs.Machine.{longest, Held, Room, lineNumber, countLine, editLine, takeLine, endOf, joinOf, stepOf, feedOf}
 use Rattle.engine.specs.laws.Steps.{step-idle}
 use Rattle.runner.specs.Program.{lineEnds}
 
@@ -43,16 +43,16 @@ line-counted st s m = either (λ (h : Held). h .st .lines) (eqb (st .lines) 0) (
 
   edit : (x : Line) → editLine (lineNumber st) (st .size) m x .st .lines ≡ lineNumber st
   edit Malformed = refl
-  edit (Edit row function a b c) = refl
+  edit (Edit row function a b c times) = refl
 
 end-counted : (w : Room) → endOf w .st .lines ≡ lineNumber (w .st)
 unfolding endOf
-end-counted w = either (λ (v : Room). v .st .lines) (ltb 72 (w .st .held)) refl (line-counted (w .st) (take (w .st .held) (w .line)) (w .sheet))
+end-counted w = either (λ (v : Room). v .st .lines) (ltb longest (w .st .held)) refl (line-counted (w .st) (take (w .st .held) (w .line)) (w .sheet))
 
 -- no other byte does
 join-counted : (w : Room) (b : ℕ) → joinOf w b .st .lines ≡ w .st .lines
 unfolding joinOf
-join-counted w b = either (λ (v : Room). v .st .lines) (ltb 72 (w .st .held)) refl refl
+join-counted w b = either (λ (v : Room). v .st .lines) (ltb longest (w .st .held)) refl refl
 
 stepped : (w : Room) (b : ℕ) → w .st .bad ≡ false → w .st .lines + 1 < 2 ^ 64 → stepOf w b .st .lines ≡ cond (eqb b 10) (w .st .lines + 1) (w .st .lines)
 unfolding stepOf

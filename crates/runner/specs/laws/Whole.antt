@@ -13,7 +13,7 @@ use borrow.Author.Tests.{ltb-true, not-true}
 use Rattle.io.specs.Counts.{clamped}
 use Rattle.page.specs.Page.{failedLine}
 use Rattle.engine.specs.Run.{joined, zeros, runOf}
-use Rattle.engine.specs.Machine.{Room, room, startOf, feedOf, feedAll, outputOf}
+use Rattle.engine.specs.Machine.{longest, Room, feedOf, feedAll, outputOf}
 use Rattle.engine.specs.laws.Law.{program-law, stopped-law}
 use Rattle.runner.specs.Reads.{Read, broughtOf, failedOf, goesOn, Next, Reads, last, go-on, spent, textOf, Ran}
 use Rattle.runner.specs.Program.{inputOf, lineEnds, writtenOf}
@@ -104,7 +104,7 @@ whole-law {text} {failed} r few = by failed refl (r .written) where
   by true e is = is ∙ ap failedLine (failed-lines (r .led) e refl (omega arith) .1 ∙ zero-add (lineEnds (inputOf (r .reads))))
   by false e is =
       let all = joined-parts (r .reads) in
-      is ∙ ap outputOf (fed (r .led)) ∙ program-law (parts (r .reads)) (zeros 72) refl (rw all few) ∙ ap runOf all
+      is ∙ ap outputOf (fed (r .led)) ∙ program-law (parts (r .reads)) (zeros longest) refl (rw all few) ∙ ap runOf all
 
 -- and where a line was bad, what is left unread does not matter
 pub unread-law : {text : List ℕ} {failed : Bool} (r : Ran text failed) (rest : List ℕ) → r .end .st .bad ≡ true
@@ -122,4 +122,4 @@ unread-law {text} {failed} r rest bad few = by failed refl (r .written) where
   by false e is =
       let all = joined-parts (r .reads) in
       let was = ap (λ (u : Room). u .st .bad) (sym (fed (r .led))) ∙ bad in
-      is ∙ ap outputOf (fed (r .led)) ∙ stopped-law (parts (r .reads)) rest (zeros 72) refl (rw all few) was ∙ ap (λ (s : List ℕ). runOf (s ++ rest)) all
+      is ∙ ap outputOf (fed (r .led)) ∙ stopped-law (parts (r .reads)) rest (zeros longest) refl (rw all few) was ∙ ap (λ (s : List ℕ). runOf (s ++ rest)) all

@@ -1,8 +1,8 @@
--- A value in units of 2^-1074: a whole number for every f64, far below N, and undone by its opposite. Assumes nothing.
+-- A value in units of 2^-1074: a whole number for every f64, far below N however often it is counted, and undone by its opposite. Assumes nothing.
 use mathlib.Core.Path.{_≡_, refl, ap, _∙_, sym}
 use mathlib.Core.Bool.{Bool, true, false, not, _&&_}
 use Prim.Native.Nat.{ℕ, zero, suc, _+_, _*_, _^_, _%_, _/_, _-_, _<_, _≤_}
-use native.Mathlib.Nat.{sub-zero, mod-self, zero-mod, add-mod, mod-add-mod, add-mod-mod, mul-div-cancel, div-lt-iff-lt-mul, div-one, lt-of-lt-of-le, lt-of-le-of-lt, lt-irrefl, le-of-lt, le-trans, le-of-eq, mul-one, mul-assoc, mul-right-comm, mul-pos, zero-mul, mul-lt-mul-of-pos-right, add-assoc, add-zero, div-add-mod, mod-lt}
+use native.Mathlib.Nat.{sub-zero, mod-self, zero-mod, add-mod, mod-add-mod, add-mod-mod, mul-div-cancel, div-lt-iff-lt-mul, div-one, lt-of-lt-of-le, lt-of-le-of-lt, lt-irrefl, le-of-lt, le-trans, le-of-eq, mul-one, mul-zero, mul-assoc, mul-right-comm, mul-pos, zero-mul, mul-le-mul-right, mul-lt-mul-of-pos-left, mul-lt-mul-of-pos-right, add-assoc, add-zero, div-add-mod, mod-lt}
 use native.Mathlib.Omega.{arith}
 use lib.Dec.{T, ltb, leb, eqb, ltb→lt, leb→le, eqb→eq, lit≤}
 use lib.IntN.{ℤ, pos, negsuc}
@@ -27,9 +27,9 @@ sign-value nan s a h = absurd h
 sign-value (inf t) s a h = absurd h
 sign-value (fin t m e) s a h = h .0
 
-pub units-value : (x : Float) (s : Bool) (a : ℕ) → HasValue x s a (2 ^ 1074) → unitsOf x ≡ complement s a % N
+pub units-value : (k : ℕ) (x : Float) (s : Bool) (a : ℕ) → HasValue x s a (2 ^ 1074) → unitsOf k x ≡ complement s (k * a) % N
 unfolding unitsOf
-units-value x s a h = (λ i. complement (sign-value x s a h i) (size-value x s a h i) % N)
+units-value k x s a h = (λ i. complement (sign-value x s a h i) (k * size-value x s a h i) % N)
 
 pub neg-value : (x : Float) (s : Bool) (a c : ℕ) → HasValue x s a c → HasValue (neg x) (not s) a c
 unfolding neg
@@ -38,16 +38,19 @@ neg-value (inf t) s a c h = absurd h
 neg-value (fin t m e) s a c h = (ap not (h .0), h .1)
 
 -- ---- NaN and the infinities add nothing
-pub units-none : (x : Float) → finite x ≡ false → (unitsOf x ≡ 0) × (unitsOf (neg x) ≡ 0)
-unfolding unitsOf neg negative sizeOf complement
-units-none nan h = (zero-mod N, zero-mod N)
-units-none (inf s) h = (zero-mod N, zero-mod N)
-units-none (fin s m e) h = let z : _≡_ {A = ℕ} 0 1 = cc in absurd (omega arith)
-
 pub complement-zero : (s : Bool) → complement s 0 % N ≡ 0
 unfolding complement
 complement-zero true = ap (λ (n : ℕ). n % N) (sub-zero N) ∙ mod-self N
 complement-zero false = zero-mod N
+
+times-nothing : (k : ℕ) (s : Bool) → complement s (k * 0) % N ≡ 0
+times-nothing k s = ap (λ (n : ℕ). complement s n % N) (mul-zero k) ∙ complement-zero s
+
+pub units-none : (k : ℕ) (x : Float) → finite x ≡ false → (unitsOf k x ≡ 0) × (unitsOf k (neg x) ≡ 0)
+unfolding unitsOf neg negative sizeOf
+units-none k nan h = (times-nothing k false, times-nothing k false)
+units-none k (inf s) h = (times-nothing k false, times-nothing k false)
+units-none k (fin s m e) h = let z : _≡_ {A = ℕ} 0 1 = cc in absurd (omega arith)
 
 -- ---- every f64 is a whole number of units, below 2^2098
 pow-back : (i j : ℕ) → 2 ^ i ≤ 2 ^ j → i ≤ j
@@ -96,50 +99,59 @@ size-lt (fin s m e) h =
     turn : (d : ℕ) → 2 ^ 1024 * d * 2 ^ 1074 ≡ 2 ^ 2098 * d
     turn d = mul-right-comm (2 ^ 1024) d (2 ^ 1074) ∙ ap (λ (n : ℕ). n * d) (sym (pow-add 2 1024 1074))
 
-pub far-below : 2 ^ 2098 ≤ N
+-- ---- and 2^16 of them are below 2^2114
+pub times-lt : (k s j : ℕ) → k < 2 ^ 16 → s < 2 ^ j → k * s < 2 ^ (16 + j)
+times-lt k s j h g =
+    lt-of-le-of-lt (mul-le-mul-right s (le-of-lt h))
+    (lt-of-lt-of-le (mul-lt-mul-of-pos-left g (pow-pos 16)) (le-of-eq (sym (pow-add 2 16 j))))
+
+pub times-size-lt : (k : ℕ) (x : Float) → k < 2 ^ 16 → T (fits binary64 x) → k * sizeOf x < 2 ^ 2114
+times-size-lt k x h f = times-lt k (sizeOf x) 2098 h (size-lt x f)
+
+pub far-below : 2 ^ 2114 ≤ N
 unfolding N
-far-below = pow-mono {i = 2098} {j = 2176} (lit≤ tt)
+far-below = pow-mono {i = 2114} {j = 2176} (lit≤ tt)
 
 -- ---- a value and its opposite come to nothing
-neg-sign : (x : Float) → (sizeOf (neg x) ≡ sizeOf x) × (complement (negative (neg x)) (sizeOf x) % N ≡ complement (not (negative x)) (sizeOf x) % N)
+neg-sign : (k : ℕ) (x : Float) → (sizeOf (neg x) ≡ sizeOf x) × (complement (negative (neg x)) (k * sizeOf x) % N ≡ complement (not (negative x)) (k * sizeOf x) % N)
 unfolding neg sizeOf negative
-neg-sign nan = (refl, complement-zero false ∙ sym (complement-zero true))
-neg-sign (inf s) = (refl, complement-zero false ∙ sym (complement-zero true))
-neg-sign (fin s m e) = (refl, refl)
+neg-sign k nan = (refl, times-nothing k false ∙ sym (times-nothing k true))
+neg-sign k (inf s) = (refl, times-nothing k false ∙ sym (times-nothing k true))
+neg-sign k (fin s m e) = (refl, refl)
 
 both-signs : (s : Bool) (n : ℕ) → n ≤ N → complement s n + complement (not s) n ≡ N
 unfolding complement
 both-signs true n h = omega arith
 both-signs false n h = omega arith
 
-pub opposite : (x : Float) → T (fits binary64 x) → (unitsOf x + unitsOf (neg x)) % N ≡ 0
+pub opposite : (k : ℕ) (x : Float) → k < 2 ^ 16 → T (fits binary64 x) → (unitsOf k x + unitsOf k (neg x)) % N ≡ 0
 unfolding unitsOf
-opposite x h =
-    let a = sizeOf x in
+opposite k x l h =
+    let a = k * sizeOf x in
     let s = negative x in
-    let e : unitsOf (neg x) ≡ complement (not s) a % N = ap (λ (n : ℕ). complement (negative (neg x)) n % N) (neg-sign x .0) ∙ neg-sign x .1 in
+    let e : unitsOf k (neg x) ≡ complement (not s) a % N = ap (λ (n : ℕ). complement (negative (neg x)) (k * n) % N) (neg-sign k x .0) ∙ neg-sign k x .1 in
     ap (λ (n : ℕ). (complement s a % N + n) % N) e
     ∙ sym (add-mod (complement s a) (complement (not s) a) N)
-    ∙ ap (λ (n : ℕ). n % N) (both-signs s a (le-of-lt (lt-of-lt-of-le (size-lt x h) far-below)))
+    ∙ ap (λ (n : ℕ). n % N) (both-signs s a (le-of-lt (lt-of-lt-of-le (times-size-lt k x l h) far-below)))
     ∙ mod-self N
 
 -- so taking a value away is adding what it lacks to N
-pub taken-units : (t : ℕ) (x : Float) → T (fits binary64 x) → takeOf t x ≡ (t + (N - unitsOf x)) % N
+pub taken-units : (t k : ℕ) (x : Float) → k < 2 ^ 16 → T (fits binary64 x) → takeOf t k x ≡ (t + (N - unitsOf k x)) % N
 unfolding takeOf unitsOf
-taken-units t x h =
-    let u = unitsOf x in
-    let v = unitsOf (neg x) in
+taken-units t k x b h =
+    let u = unitsOf k x in
+    let v = unitsOf k (neg x) in
     let q = (u + v) / N in
-    let z : u + v ≡ N * q = sym (div-add-mod (u + v) N) ∙ ap (λ (n : ℕ). N * q + n) (opposite x h) ∙ add-zero (N * q) in
-    let l : u < N = mod-lt (complement (negative x) (sizeOf x)) N-pos in
+    let z : u + v ≡ N * q = sym (div-add-mod (u + v) N) ∙ ap (λ (n : ℕ). N * q + n) (opposite k x b h) ∙ add-zero (N * q) in
+    let l : u < N = mod-lt (complement (negative x) (k * sizeOf x)) N-pos in
     same-mod (t + v) (t + (N - u)) 1 q (omega arith)
 
 -- and undoes adding it
-pub undone : (t : ℕ) (x : Float) → T (fits binary64 x) → takeOf (addOf t x) x ≡ t % N
+pub undone : (t k : ℕ) (x : Float) → k < 2 ^ 16 → T (fits binary64 x) → takeOf (addOf t k x) k x ≡ t % N
 unfolding addOf takeOf
-undone t x h =
-    mod-add-mod (t + unitsOf x) N (unitsOf (neg x))
-    ∙ ap (λ (n : ℕ). n % N) (add-assoc t (unitsOf x) (unitsOf (neg x)))
-    ∙ sym (add-mod-mod t (unitsOf x + unitsOf (neg x)) N)
-    ∙ ap (λ (n : ℕ). (t + n) % N) (opposite x h)
+undone t k x b h =
+    mod-add-mod (t + unitsOf k x) N (unitsOf k (neg x))
+    ∙ ap (λ (n : ℕ). n % N) (add-assoc t (unitsOf k x) (unitsOf k (neg x)))
+    ∙ sym (add-mod-mod t (unitsOf k x + unitsOf k (neg x)) N)
+    ∙ ap (λ (n : ℕ). (t + n) % N) (opposite k x b h)
     ∙ ap (λ (n : ℕ). n % N) (add-zero t)

@@ -66,24 +66,29 @@ impl Both {
         self.same_number("blank", numbers)
     }
 
-    pub fn edit(&mut self, row: u32, function: u8, arguments: [u64; 3]) -> u8 {
-        let numbers = [self.lent.edit(row, function, arguments), self.model.edit(row, function, arguments, answers)];
+    pub fn edit_times(&mut self, row: u32, function: u8, arguments: [u64; 3], times: u16) -> u8 {
+        let numbers = [self.lent.edit(row, function, arguments, times), self.model.edit(row, function, arguments, times, answers)];
         self.same_number("edit", numbers)
     }
 
+    /// A leg that was driven once.
+    pub fn edit(&mut self, row: u32, function: u8, arguments: [u64; 3]) -> u8 {
+        self.edit_times(row, function, arguments, 1)
+    }
+
     pub fn clear(&mut self, row: u32) -> u8 {
-        self.edit(row, 0, [model::NAN; 3])
+        self.edit_times(row, 0, [model::NAN; 3], 0xa5a5)
     }
 
     /// The edit by way of the safe face.
-    pub fn safe_edit(&mut self, row: u32, function: u8, [a, b, c]: [u64; 3]) -> u8 {
+    pub fn safe_edit(&mut self, row: u32, function: u8, [a, b, c]: [u64; 3], times: u16) -> u8 {
         let edited = Sheet::from_bytes(self.lent.bytes_mut()).and_then(|mut sheet| {
             if function == 0 {
                 return sheet.clear(row);
             }
-            sheet.edit(row, function, a, b, c)
+            sheet.edit(row, function, a, b, c, times)
         });
-        let numbers = [number(edited), self.model.edit(row, function, [a, b, c], answers)];
+        let numbers = [number(edited), self.model.edit(row, function, [a, b, c], times, answers)];
         self.same_number("Sheet::edit", numbers)
     }
 
@@ -92,6 +97,8 @@ impl Both {
         self.same("row_at", places);
         let numbers = [self.lent.row_refusal(row), self.model.row_refusal(row)];
         self.same_number("row_refusal", numbers);
+        let times = [self.lent.row_times(row), self.model.row_times(row)];
+        self.same("row_times", times);
     }
 
     pub fn read_total(&mut self) -> u64 {
@@ -110,21 +117,24 @@ impl Both {
         };
         assert_eq!(self.model.total_refusal(), 0);
         assert_eq!(Some(sheet.rows() as usize), self.model.rows());
+        assert_eq!(sheet.keeps_times(), self.model.keeps_times());
         assert_eq!(sheet.total().to_bits(), self.model.total());
         for (k, class) in CLASSES.into_iter().enumerate() {
             assert_eq!(sheet.count(class), self.model.count(k));
         }
+        let times = self.model.row_times(row);
         let row = match sheet.row(row) {
             Ok(read) => read,
             Err(refusal) => return assert_eq!(refusal.number(), self.model.row_refusal(row)),
         };
+        assert_eq!(row.times(), times);
         let at = row.as_bytes().as_ptr() as usize - self.lent.bytes().as_ptr() as usize;
         let own = &self.model.bytes[at..at + 48];
         assert_eq!(row.as_bytes(), own);
         assert_eq!(row.class(), model::class(own).map(|k| CLASSES[k]));
         let refusal = row.refusal().map_or(0, Refusal::number);
         let [first, second] = row.answers();
-        assert_eq!(model::new_row(row.function(), row.arguments(), (refusal, first, second))[8..], own[8..]);
+        assert_eq!(model::new_row(row.function(), row.arguments(), (refusal, first, second), times)[8..], own[8..]);
         assert_eq!([row.function(), refusal], own[..2]);
         match row.values() {
             Ok(values) => assert_eq!((refusal, values.map(f64::to_bits)), (0, [first, second])),

@@ -5,7 +5,7 @@ use crate::lent;
 use crate::model::{self, LAST};
 use crate::random::Random;
 
-/// A blank sheet of some size; now and then bytes that are none.
+/// A blank sheet of some size; now and then bytes that are none, or a sheet that says 1.
 fn bytes(random: &mut Random) -> Both {
     let at_the_end = random.below(2) == 0;
     let rows = random.one_of(&[0, 1, 1, 2, 3, 3, 7, 7, 7, 40, 40, 1024]);
@@ -16,6 +16,17 @@ fn bytes(random: &mut Random) -> Both {
         0..=2 => Both::new(vec![random.next() as u8; wrong], at_the_end),
         3..=5 => Both::new((0..length).map(|_| random.next() as u8).collect(), at_the_end),
         6 => Both::new(model::worked_out(&vec![vec![0; 48]; 1025]), at_the_end),
+        7..=8 => {
+            // Any rows, worked out afresh: an old sheet's but for its first word.
+            let row = |random: &mut Random| {
+                let (function, arguments, times) = (random.below(LAST as u64 + 1) as u8, random.patterns(), random.times());
+                let arguments = model::read_by(function, arguments);
+                model::new_row(function, arguments, lent::answers(function, arguments), times)
+            };
+            let mut bytes = model::worked_out(&(0..rows.min(40)).map(|_| row(random)).collect::<Vec<_>>());
+            bytes[0] = random.one_of(&[model::OLD, model::OLD, model::NEW]);
+            Both::new(bytes, at_the_end)
+        }
         _ => {
             let mut both = Both::new(vec![random.next() as u8; length], at_the_end);
             assert_eq!(both.blank(rows as u32), 0);
@@ -32,9 +43,11 @@ fn damage(random: &mut Random, both: &mut Both, wounds: &mut Wounds) {
     let row = 32 + 48 * random.below(4);
     let totals = both.model.bytes.len().saturating_sub(296) as u64;
     let places = [
+        0,
         random.below(32),
         row,
         row + 1,
+        row + 2 + random.below(2),
         row + random.below(48),
         totals + 4 * random.below(5),
         totals + random.below(24),
@@ -51,8 +64,8 @@ fn damage(random: &mut Random, both: &mut Both, wounds: &mut Wounds) {
         return (0..8).for_each(|k| set(row + 32 + k, &|_| first[k as usize]));
     }
     let any = random.next() as u8;
-    let choice = random.below(7) as usize;
-    set(random.one_of(&places), &|old| [old ^ 1, old.wrapping_add(1), old.wrapping_sub(1), 0, 7, 0xff, any][choice]);
+    let choice = random.below(8) as usize;
+    set(random.one_of(&places), &|old| [old ^ 1, old ^ 2, old.wrapping_add(1), old.wrapping_sub(1), 0, 7, 0xff, any][choice]);
 }
 
 /// One call, or damage that stays for a while.
@@ -62,11 +75,12 @@ fn step(random: &mut Random, both: &mut Both, wounds: &mut Wounds, whole: bool) 
     let row = if random.below(10) > 0 { near } else { random.one_of(&[rows as u32, rows as u32 + 1, u32::MAX]) };
     let function = random.one_of(&[0, 1, 2, 3, 4, 4, 5, 5, 5, 5, 6, 6, LAST, LAST + 1, 255]);
     let arguments = random.patterns();
+    let times = random.times();
     match random.below(32) {
-        0..=5 => _ = both.edit(row, function, arguments),
+        0..=5 => _ = both.edit_times(row, function, arguments, times),
         // ellipeinc(φ, 0) is φ: any float comes into the total.
-        6..=13 => _ = both.edit(row, 5, [arguments[0], 0, arguments[2]]),
-        14..=16 => _ = both.safe_edit(row, function, arguments),
+        6..=13 => _ = both.edit_times(row, 5, [arguments[0], 0, arguments[2]], times),
+        14..=16 => _ = both.safe_edit(row, function, arguments, times),
         17..=18 => _ = both.clear(row),
         19..=20 => both.read_row(row),
         21 => both.safe_read(row),
@@ -104,7 +118,7 @@ fn run(seed: u64, least: u64) {
         for _ in 0..random.below(1000) {
             step(&mut random, &mut both, &mut wounds, whole);
         }
-        if whole && both.model.rows().is_some() {
+        if whole && both.model.keeps_times() {
             both.is_worked_out();
         }
         sheets += 1;

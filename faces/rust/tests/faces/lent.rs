@@ -14,9 +14,10 @@ mod c {
         pub fn sm_remainder(x: u64, y: u64) -> u64;
         pub fn sm_evaluate(function: u8, a: u64, b: u64, c: u64, out: *mut u64, len: usize) -> u8;
         pub fn sm_blank(sheet: *mut u8, len: usize, rows: u32) -> u8;
-        pub fn sm_edit(sheet: *mut u8, len: usize, row: u32, function: u8, a: u64, b: u64, c: u64) -> u8;
+        pub fn sm_edit(sheet: *mut u8, len: usize, row: u32, function: u8, a: u64, b: u64, c: u64, times: u16) -> u8;
         pub fn sm_row_at(sheet: *const u8, len: usize, row: u32) -> usize;
         pub fn sm_row_refusal(sheet: *const u8, len: usize, row: u32) -> u8;
+        pub fn sm_row_times(sheet: *const u8, len: usize, row: u32) -> u16;
         pub fn sm_total(sheet: *const u8, len: usize) -> u64;
         pub fn sm_total_refusal(sheet: *const u8, len: usize) -> u8;
 
@@ -61,15 +62,16 @@ pub fn answers(function: u8, arguments: [u64; 3]) -> (u8, u64, u64) {
 }
 
 /// What every call over bytes answers for no bytes at all, the pointer null.
-pub fn of_nothing(row: u32, rows: u32) -> (u8, u8, usize, u8, u64, u8, u8) {
+pub fn of_nothing(row: u32, rows: u32) -> (u8, u8, usize, u8, u16, u64, u8, u8) {
     let (no_bytes, no_numbers) = (std::ptr::null_mut(), std::ptr::null_mut());
     // SAFETY: of no bytes none is lent.
     unsafe {
         (
             c::sm_blank(no_bytes, 0, rows),
-            c::sm_edit(no_bytes, 0, row, 1, 0, 0, 0),
+            c::sm_edit(no_bytes, 0, row, 1, 0, 0, 0, 1),
             c::sm_row_at(no_bytes, 0, row),
             c::sm_row_refusal(no_bytes, 0, row),
+            c::sm_row_times(no_bytes, 0, row),
             c::sm_total(no_bytes, 0),
             c::sm_total_refusal(no_bytes, 0),
             c::sm_evaluate(1, 0, 0, 0, no_numbers, 0),
@@ -142,8 +144,8 @@ impl Lent {
         unsafe { c::sm_blank(self.start(), self.length, rows) }
     }
 
-    pub fn edit(&mut self, row: u32, function: u8, [a, b, c]: [u64; 3]) -> u8 {
-        unsafe { c::sm_edit(self.start(), self.length, row, function, a, b, c) }
+    pub fn edit(&mut self, row: u32, function: u8, [a, b, c]: [u64; 3], times: u16) -> u8 {
+        unsafe { c::sm_edit(self.start(), self.length, row, function, a, b, c, times) }
     }
 
     pub fn row_at(&self, row: u32) -> usize {
@@ -152,6 +154,10 @@ impl Lent {
 
     pub fn row_refusal(&self, row: u32) -> u8 {
         unsafe { c::sm_row_refusal(self.start(), self.length, row) }
+    }
+
+    pub fn row_times(&self, row: u32) -> u16 {
+        unsafe { c::sm_row_times(self.start(), self.length, row) }
     }
 
     pub fn total(&self) -> u64 {

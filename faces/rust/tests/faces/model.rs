@@ -103,11 +103,12 @@ pub fn read_by(function: u8, arguments: [u64; 3]) -> [u64; 3] {
 
 const NUMBER: usize = 272;
 
-/// Adds a finite value, in units of 2^-1074, or takes it away.
-fn add(number: &mut [u8], value: u64, take_away: bool) {
+/// Adds a finite value so many times, in units of 2^-1074, or takes it away.
+fn add(number: &mut [u8], value: u64, times: u16, take_away: bool) {
     let (field, digits) = (value >> 52 & 0x7ff, value % (1 << 52));
     let (digits, shift) = if field == 0 { (digits, 0) } else { (digits + (1 << 52), field as usize - 1) };
-    let size = ((digits as u128) << (shift % 8)).to_le_bytes();
+    let size = (digits as u128 * times as u128) << (shift % 8);
+    let size = size.to_le_bytes();
     let less = take_away != (value >= SIGN);
     let mut carry = 0;
     for (i, digit) in number[shift / 8..].iter_mut().enumerate() {
@@ -154,9 +155,13 @@ fn words(words: &[u32]) -> Vec<u8> {
     words.iter().flat_map(|word| word.to_le_bytes()).collect()
 }
 
-fn contents(rows: usize) -> Vec<u8> {
+/// What the first word says: 1 of a sheet without times, which is only read, 3 of one with.
+pub const OLD: u8 = 1;
+pub const NEW: u8 = 3;
+
+fn contents(says: u8, rows: usize) -> Vec<u8> {
     let rows = rows as u32;
-    words(&[1, 32, 48 * rows, rows, 2, 32 + 48 * rows, 296, 1])
+    words(&[says as u32, 32, 48 * rows, rows, 2, 32 + 48 * rows, 296, 1])
 }
 
 /// A row's class, 0 to 4 (blank, finite, +∞, -∞, refused); none where its first answer is NaN and decides.
@@ -175,8 +180,14 @@ fn first(row: &[u8]) -> u64 {
     u64::from_le_bytes(row[32..40].try_into().unwrap())
 }
 
-pub fn new_row(function: u8, arguments: [u64; 3], (refusal, first, second): Answers) -> Vec<u8> {
-    let mut row = vec![function, refusal, 0, 0, 0, 0, 0, 0];
+/// The times that the bytes hold.
+fn times(row: &[u8]) -> u16 {
+    u16::from_le_bytes([row[2], row[3]])
+}
+
+pub fn new_row(function: u8, arguments: [u64; 3], (refusal, first, second): Answers, times: u16) -> Vec<u8> {
+    let [low, high] = if function == 0 { [0, 0] } else { times.to_le_bytes() };
+    let mut row = vec![function, refusal, low, high, 0, 0, 0, 0];
     for pattern in arguments.into_iter().chain([first, second]) {
         row.extend(pattern.to_le_bytes());
     }
@@ -191,10 +202,10 @@ pub fn worked_out(rows: &[Vec<u8>]) -> Vec<u8> {
         let class = class(row).expect("no NaN");
         counts[class] += 1;
         if class == 1 {
-            add(&mut number, first(row), false);
+            add(&mut number, first(row), times(row), false);
         }
     }
-    [contents(rows.len()), rows.concat(), words(&counts), number.to_vec()].concat()
+    [contents(NEW, rows.len()), rows.concat(), words(&counts), number.to_vec()].concat()
 }
 
 #[derive(Clone)]
@@ -207,7 +218,25 @@ impl Model {
     pub fn rows(&self) -> Option<usize> {
         let over = self.bytes.len().checked_sub(length(0))?;
         let rows = over / 48;
-        (over % 48 == 0 && rows <= 1024 && self.bytes[..32] == contents(rows)).then_some(rows)
+        let says = |says| self.bytes[..32] == contents(says, rows);
+        (over % 48 == 0 && rows <= 1024 && (says(NEW) || says(OLD))).then_some(rows)
+    }
+
+    /// Whether it is a sheet that may be edited.
+    pub fn keeps_times(&self) -> bool {
+        self.rows().is_some() && self.bytes[0] == NEW
+    }
+
+    pub fn row_times(&self, row: u32) -> u16 {
+        if self.row_refusal(row) != 0 {
+            return 0;
+        }
+        let own = self.row(row as usize);
+        if self.keeps_times() {
+            times(own)
+        } else {
+            (own[0] != 0) as u16
+        }
     }
 
     pub fn row(&self, row: usize) -> &[u8] {
@@ -232,7 +261,7 @@ impl Model {
 
     /// What an edit is refused with; 0 where it is accepted.
     pub fn edit_refusal(&self, row: u32, function: u8) -> u8 {
-        let Some(rows) = self.rows() else { return 7 };
+        let Some(rows) = self.rows().filter(|_| self.keeps_times()) else { return 7 };
         if row as usize >= rows {
             return 8;
         }
@@ -250,13 +279,13 @@ impl Model {
     }
 
     /// An edit; `answers` are those of the function at the arguments that it reads.
-    pub fn edit(&mut self, row: u32, function: u8, arguments: [u64; 3], answers: impl Fn(u8, [u64; 3]) -> Answers) -> u8 {
+    pub fn edit(&mut self, row: u32, function: u8, arguments: [u64; 3], driven: u16, answers: impl Fn(u8, [u64; 3]) -> Answers) -> u8 {
         let refusal = self.edit_refusal(row, function);
         if refusal != 0 {
             return refusal;
         }
         let arguments = read_by(function, arguments);
-        let new = new_row(function, arguments, answers(function, arguments));
+        let new = new_row(function, arguments, answers(function, arguments), driven);
         let old = self.row(row as usize).to_vec();
         let mut counts = self.counts();
         let totals = self.bytes.len() - 296;
@@ -268,7 +297,7 @@ impl Model {
                 counts[class] += 1
             }
             if class == 1 {
-                add(&mut self.bytes[totals + 24..], first(row), taken);
+                add(&mut self.bytes[totals + 24..], first(row), times(row), taken);
             }
         }
         self.bytes[totals..totals + 24].copy_from_slice(&words(&[&counts[..], &[0]].concat()));

@@ -57,6 +57,12 @@ impl Random {
         }
     }
 
+    /// How often a leg was driven; ends are common.
+    pub fn times(&mut self) -> u16 {
+        let any = self.next() as u16;
+        self.one_of(&[0, 1, 1, 2, 255, 256, 0x8000, u16::MAX - 1, u16::MAX, any, any, any])
+    }
+
     pub fn patterns(&mut self) -> [u64; 3] {
         [self.pattern(), self.pattern(), self.pattern()]
     }

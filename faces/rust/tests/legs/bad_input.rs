@@ -16,11 +16,11 @@ fn files() {
     fails("\n\r\n", "this is empty; the first line must name the columns, as in name,from,to");
     fails("\u{feff}", "this is empty; the first line must name the columns, as in name,from,to");
     fails(b"\xff\xfen\0", "this is UTF-16; save it as CSV in UTF-8");
-    fails("leg\n", "line 1, column 1 (leg): legs knows no such column (name, from, to, phi, n, m, function); mend the title, take the column out, or give --ignore-unknown");
-    fails("name,from,to,form\n", "line 1, column 4 (form): legs knows no such column (name, from, to, phi, n, m, function); mend the title, take the column out, or give --ignore-unknown");
+    fails("leg\n", "line 1, column 1 (leg): legs knows no such column (name, from, to, phi, n, m, function, times); mend the title, take the column out, or give --ignore-unknown");
+    fails("name,from,to,form\n", "line 1, column 4 (form): legs knows no such column (name, from, to, phi, n, m, function, times); mend the title, take the column out, or give --ignore-unknown");
     fails(
-        "from,to,times\n1,2,3\n",
-        "line 1, column 3 (times): this version of legs has no times; write a line for each drive and take the column out",
+        "from,to,times\n1,2,65536\n",
+        "line 2, column 3 (times): \"65536\" is no number of times; write a whole one from 0 to 65535, and what is beyond that in another line",
     );
     fails("from,to,phi,m\n1,2,,\n", "line 1: from, to and other arguments stand in one header; keep one kind, or make two files");
     fails("name,from\nx,1\n", "line 1: the column to is missing; a leg has from and to");

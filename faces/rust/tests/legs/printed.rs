@@ -1,6 +1,6 @@
 //! What is printed of input that reads.
 use crate::run::{fields, lengths, on, Folder, EXAMPLES};
-use shuttlemint::{integrals, Refusal};
+use shuttlemint::{integrals, Refusal, Sheet};
 
 const TABLE: &str = "   10001965.729 m  equator to pole
     2822111.167 m  Struve's arc, the Danube's mouth to Hammerfest
@@ -73,12 +73,12 @@ fn csv_reads_back_to_the_same_bits() {
     let ran = on(&["--csv"], "name,from,to\na,45.33,70.67\nb,-3.08,0.04\nback,0.04,-3.08\nnone,12.5,12.5\n");
     assert_eq!(ran.status, 0);
     let lines: Vec<&str> = ran.out.lines().collect();
-    assert_eq!(lines[0], "what,file,line,name,metres,count,refusal,why");
-    assert_eq!(lines[1], "leg,-,2,a,2822111.167234795,,,");
-    assert_eq!(lines[4], "leg,-,5,none,0.0,,,");
+    assert_eq!(lines[0], "what,file,line,name,metres,count,refusal,why,times");
+    assert_eq!(lines[1], "leg,-,2,a,2822111.167234795,,,,1");
+    assert_eq!(lines[4], "leg,-,5,none,0.0,,,,1");
     assert_eq!(
         lines[5..10],
-        ["count,,,blank,,0,,", "count,,,finite,,8,,", "count,,,+inf,,0,,", "count,,,-inf,,0,,", "count,,,refused,,0,,"]
+        ["count,,,blank,,0,,,", "count,,,finite,,8,,,", "count,,,+inf,,0,,,", "count,,,-inf,,0,,,", "count,,,refused,,0,,,"]
     );
     assert!(lines[10].starts_with("total,,,,") && lines.len() == 11);
     let (legs, total) = lengths(&ran);
@@ -144,13 +144,41 @@ rows: 0 blank, 1 finite, 1 +inf, 1 -inf, 2 refused, in 1 sheet
     let ran = on(&["--axis", "1", "--csv"], text);
     assert_eq!(ran.status, 1);
     let lines: Vec<&str> = ran.out.lines().collect();
-    assert_eq!(lines[2], format!("leg,-,3,pole,,,4,\"{}\"", one.message()));
-    assert_eq!(lines[3], "leg,-,4,long,inf,,,\"the answer is infinite, and in no total\"");
-    assert_eq!(lines[4], "leg,-,5,\"down, far\",-inf,,,\"the answer is infinite, and in no total\"");
-    assert_eq!(lines[10], "count,,,refused,,2,,");
-    assert_eq!(lines[11], "total,,,,1.0,,,");
+    assert_eq!(lines[2], format!("leg,-,3,pole,,,4,\"{}\",1", one.message()));
+    assert_eq!(lines[3], "leg,-,4,long,inf,,,\"the answer is infinite, and in no total\",1");
+    assert_eq!(lines[4], "leg,-,5,\"down, far\",-inf,,,\"the answer is infinite, and in no total\",1");
+    assert_eq!(lines[10], "count,,,refused,,2,,,");
+    assert_eq!(lines[11], "total,,,,1.0,,,,");
     // An infinite leg alone has no length either.
     assert_eq!(on(&[], "function,m\nellipk,1\n").status, 1);
+}
+
+#[test]
+fn legs_driven_several_times() {
+    let driven = std::fs::read_to_string(format!("{EXAMPLES}/driven.csv")).unwrap();
+    let ran = on(&[], &driven);
+    let page = std::fs::read_to_string(format!("{EXAMPLES}/../docs/LEGS.md")).unwrap();
+    assert!(ran.status == 0 && page.contains(&ran.out), "docs/LEGS.md shows another table than\n{}", ran.out);
+    // A leg so often is as good as so many lines of it.
+    let (mut singly, mut times) = (String::from("name,from,to\n"), vec![]);
+    for line in driven.lines().skip(1) {
+        let (leg, often) = line.rsplit_once(',').unwrap();
+        times.push(often.parse::<usize>().unwrap());
+        singly += &format!("{leg}\n").repeat(times[times.len() - 1]);
+    }
+    let csv = on(&["--csv"], &driven);
+    assert!(times.contains(&0) && times.iter().any(|&often| often > 1));
+    assert_eq!(lengths(&csv).1.to_bits(), lengths(&on(&["--csv"], singly)).1.to_bits());
+    let shown: Vec<&str> = csv.out.lines().skip(1).take(times.len()).map(|line| line.rsplit_once(',').unwrap().1).collect();
+    assert_eq!(shown, times.iter().map(usize::to_string).collect::<Vec<_>>());
+    // A leg without a length is shown with its times too.
+    let ran = on(&[], "name,function,n,m,times\npole,ellippi,1,0.5,3\n");
+    assert!(ran.out.starts_with("        refused    pole, driven 3 times: refusal 4"), "{}", ran.out);
+    // The sheet keeps them.
+    let folder = Folder::new().with("a.csv", "from,to,times\n0,90,7\n");
+    assert_eq!(folder.legs(&["--sheet", "month.sheet", "a.csv"]).status, 0);
+    let sheet = Sheet::from_bytes(std::fs::read(folder.path("month.sheet")).unwrap()).unwrap();
+    assert_eq!(sheet.iter().map(|row| row.times()).collect::<Vec<_>>(), [7, 7]);
 }
 
 #[test]
@@ -198,7 +226,7 @@ fn five_thousand_legs() {
     text += "-1e300,0\n";
     let ran = on(&["--csv", "--axis", "1"], &text);
     assert_eq!((ran.status, lengths(&ran).0.len(), lengths(&ran).1), (0, 5000, 4998.0));
-    assert!(ran.out.contains("count,,,finite,,5000,,\n"));
+    assert!(ran.out.contains("count,,,finite,,5000,,,\n"));
 
     let legs: String = (0..5000).map(|k| format!("{},{}\n", k as f64 / 100.0, (k % 90) as f64)).collect();
     let ran = on(&[], format!("from,to\n{legs}"));
@@ -232,7 +260,7 @@ fn help_version_and_the_page() {
     let page = std::fs::read_to_string(format!("{EXAMPLES}/../faces/man/legs.1")).unwrap().replace("\\-", "-");
     let doc = std::fs::read_to_string(format!("{EXAMPLES}/../docs/LEGS.md")).unwrap();
     let words = help.out.split(|c: char| c.is_whitespace() || c == ',').filter(|word| word.starts_with("--"));
-    for word in words.chain(["name", "from", "phi", "function", "ellipeinc", "arc tangent"]) {
+    for word in words.chain(["name", "from", "phi", "function", "ellipeinc", "times", "arc tangent"]) {
         assert!(page.contains(word), "faces/man/legs.1 does not name {word}");
         assert!(doc.contains(word), "docs/LEGS.md does not name {word}");
     }

@@ -48,7 +48,7 @@ returns-2 c =
     let n = c .before .before .before .before .before .least in
     let q = c .before .before .before .edit in
     rw (c .between2 .ensures)
-    (edit-made (a .k) (a .size) (a .sheet .now) (c .before .before .before .before .before .before .before .before .before .read-edit .ensures) _ _ _ _ _ (n .result) (q .result) (c .before .before .before .before .before .before .before .row .given .1)
+    (edit-made (a .k) (a .size) (a .sheet .now) (c .before .before .before .before .before .before .before .before .before .read-edit .ensures) _ _ _ _ _ _ (n .result) (q .result) (c .before .before .before .before .before .before .before .row .given .1)
     (n .ensures) (q .ensures .0) (q .ensures .1))
 
 pub edit-line-spec : {M : Type 1} → statement M

@@ -12,12 +12,12 @@ row-place-requires c κs = search needs
 cast-end : tie.Need-cast-end
 cast-end c = search needs
 
-mul-t4 : tie.Need-mul-t4
-mul-t4 c = search needs
+mul-t5 : tie.Need-mul-t5
+mul-t5 c = search needs
 
 returns : tie.Need-returns
 unfolding entries
-returns c = let r = c .before .args .rows in λ i. 1 ∷ 32 ∷ 48 * r ∷ r ∷ 2 ∷ c .row-place .ensures i ∷ 296 ∷ 1 ∷ []
+returns c = let r = c .before .args .rows in λ i. c .before .args .kind ∷ 32 ∷ 48 * r ∷ r ∷ 2 ∷ c .row-place .ensures i ∷ 296 ∷ 1 ∷ []
 
 pub contents-spec : {M : Type 1} → statement M
-contents-spec = tie.close (tie.spec row-place-requires cast-end mul-t4 returns)
+contents-spec = tie.close (tie.spec row-place-requires cast-end mul-t5 returns)

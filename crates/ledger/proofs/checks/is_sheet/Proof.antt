@@ -1,58 +1,26 @@
--- Test by test.
-use mathlib.Core.Path.{ap, _∙_}
-use Rattle.ledger.specs.Bytes.{read}
-use Rattle.ledger.specs.Calls.{equal}
-use Rattle.ledger.proofs.Tested.{too-many, odd-length, by-contents}
+-- One kind, or else the other.
+use mathlib.Core.Path.{_∙_, sym}
+use Rattle.ledger.specs.laws.Refusals.{sheet-with-times}
+use Rattle.ledger.proofs.Tested.{not-the-first}
 use borrow.Author.Needs.{needs}
-use Rattle.ledger.proofs.checks.contents.Reads as contents-reads
-use Rattle.ledger.proofs.checks.starts_with.Reads as starts-with-reads
-use Rattle.ledger.proofs.rows_in.Reads as rows-in-reads
-use Rattle.ledger.proofs.size_for.Reads as size-for-reads
+use Rattle.ledger.proofs.checks.is_sheet_of.Reads as is-sheet-of-reads
 use Rattle.ledger.proofs.checks.is_sheet.Statement.{statement}
 use Rattle.ledger.proofs.checks.is_sheet.Tie as tie
 use Rattle.ledger.proofs.checks.is_sheet.Reads as reads
 use Rattle.ledger.proofs.checks.is_sheet.Lts as lts
 
-rows-in-requires : tie.Need-rows-in-requires
-rows-in-requires c κs = search needs
+is-sheet-of-requires : tie.Need-is-sheet-of-requires
+is-sheet-of-requires c κs = search needs
 
 returns : tie.Need-returns
-returns c = let e = c .before .rows-in .ensures in too-many (c .before .before .before .args .s .now) (rw (← e) (c .if1 .taken))
+returns c = sym (sheet-with-times (c .before .before .before .args .s .now) (sym (c .before .is-sheet-of .ensures) ∙ c .if1 .taken))
 
-cast-size-for : tie.Need-cast-size-for
-cast-size-for c = search needs
-
-size-for-requires : tie.Need-size-for-requires
-size-for-requires c κs = search needs
+is-sheet-of-requires-2 : tie.Need-is-sheet-of-requires-2
+is-sheet-of-requires-2 c κs = search needs
 
 returns-2 : tie.Need-returns-2
-returns-2 c = let e = c .before .before .before .rows-in .ensures in odd-length (c .before .before .before .before .before .args .s .now) (rw (← e) (c .before .before .if1 .left)) (λ h. c .if2 .taken (rw (c .before .size-for .ensures, e) h))
-
-cast-contents : tie.Need-cast-contents
-cast-contents c = search needs
-
-contents-requires : tie.Need-contents-requires
-contents-requires c κs = search needs
-
-starts-with-requires : tie.Need-starts-with-requires
-starts-with-requires c κs = search needs
-
-returns-3 : tie.Need-returns-3
-returns-3 c =
-    let s = c .before .before .before .before .before .before .before .args .s .now in
-    let e = c .before .before .before .before .before .rows-in .ensures in
-    c .starts-with .ensures ∙ ap (equal (read 4 8 s)) (c .before .contents .ensures) ∙ rw e (by-contents s (rw (← e) (c .before .before .before .before .if1 .left)) (rw (← e, ← c .before .before .before .size-for .ensures) (c .before .before .if2 .left)))
+returns-2 c = c .is-sheet-of2 .ensures ∙ not-the-first (c .before .before .before .before .args .s .now) (sym (c .before .before .is-sheet-of .ensures) ∙ c .before .if1 .left)
 
 pub is-sheet-spec : {M : Type 1} → statement M
 is-sheet-spec =
-    tie.close
-    (tie.spec
-    rows-in-requires
-    returns
-    cast-size-for
-    size-for-requires
-    returns-2
-    cast-contents
-    contents-requires
-    starts-with-requires
-    returns-3)
+    tie.close (tie.spec is-sheet-of-requires returns is-sheet-of-requires-2 returns-2)

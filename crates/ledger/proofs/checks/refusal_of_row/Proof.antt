@@ -1,10 +1,10 @@
--- Test by test.
-use mathlib.Core.Path.{_∙_, sym}
-use borrow.Author.Tests.{not-true, not-false}
-use Rattle.ledger.proofs.Tested.{row-7, row-8, row-0}
+-- Any sheet is taken.
+use mathlib.Core.Path.{_∙_, ap}
+use mathlib.Core.Bool.{Bool}
+use Rattle.ledger.specs.Calls.{rowsIn, rowRungs, rowRefusal}
 use borrow.Author.Needs.{needs}
 use Rattle.ledger.proofs.checks.is_sheet.Reads as is-sheet-reads
-use Rattle.ledger.proofs.rows_in.Reads as rows-in-reads
+use Rattle.ledger.proofs.checks.refusal_in.Reads as refusal-in-reads
 use Rattle.ledger.proofs.checks.refusal_of_row.Statement.{statement}
 use Rattle.ledger.proofs.checks.refusal_of_row.Tie as tie
 use Rattle.ledger.proofs.checks.refusal_of_row.Reads as reads
@@ -13,18 +13,14 @@ use Rattle.ledger.proofs.checks.refusal_of_row.Lts as lts
 is-sheet-requires : tie.Need-is-sheet-requires
 is-sheet-requires c κs = search needs
 
+refusal-in-requires : tie.Need-refusal-in-requires
+refusal-in-requires c κs = search needs
+
 returns : tie.Need-returns
-returns c = row-7 (c .before .before .before .args .s .now) (c .before .before .before .args .row) (sym (c .before .is-sheet .ensures) ∙ not-true _ (c .if1 .taken))
-
-rows-in-requires : tie.Need-rows-in-requires
-rows-in-requires c κs = search needs
-
-returns-2 : tie.Need-returns-2
-returns-2 c = row-8 (c .before .before .before .before .before .args .s .now) (c .before .before .before .before .before .args .row) (sym (c .before .before .before .is-sheet .ensures) ∙ not-false _ (c .before .before .if1 .left)) (rw (← c .before .rows-in .ensures) (c .if2 .taken))
-
-returns-3 : tie.Need-returns-3
-returns-3 c = row-0 (c .before .before .before .before .before .args .s .now) (c .before .before .before .before .before .args .row) (sym (c .before .before .before .is-sheet .ensures) ∙ not-false _ (c .before .before .if1 .left)) (rw (← c .before .rows-in .ensures) (c .if2 .left))
+unfolding rowRefusal
+returns c =
+    let a = c .before .before .before .args in
+    c .refusal-in .ensures ∙ ap (λ (taken : Bool). rowRungs taken (rowsIn (a .s .now)) (a .row)) (c .before .is-sheet .ensures)
 
 pub refusal-of-row-spec : {M : Type 1} → statement M
-refusal-of-row-spec =
-    tie.close (tie.spec is-sheet-requires returns rows-in-requires returns-2 returns-3)
+refusal-of-row-spec = tie.close (tie.spec is-sheet-requires refusal-in-requires returns)

@@ -33,7 +33,7 @@ returns c =
     let a = c .before .before .before .before .before .before .args in
     let v = ap val (c .before .before .before .of .ensures) ∙ c .before .before .before .before .read-total .ensures in
     c .limbs .ensures ∙ c .before .add .ensures .1
-    ∙ ap (λ (t : ℕ). limbsOf (addOf t (a .new))) (c .before .before .take .ensures .0 ∙ ap (λ (t : ℕ). takeOf t (a .old)) v)
+    ∙ ap (λ (t : ℕ). limbsOf (addOf t (a .new .times) (a .new .value))) (c .before .before .take .ensures .0 ∙ ap (λ (t : ℕ). takeOf t (a .old .times) (a .old .value)) v)
 
 pub moved-spec : {M : Type 1} → statement M
 moved-spec =

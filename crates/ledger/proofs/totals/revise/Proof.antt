@@ -1,12 +1,12 @@
 -- The counts and the total stand at the end of the sheet; what they become goes by the rows whose shares these are.
 use mathlib.Core.Path.{_≡_, ap, _∙_}
 use mathlib.Core.List.{[], _∷_, _++_}
-use Prim.Native.Nat.{_+_, _-_}
+use Prim.Native.Nat.{_+_, _-_, _<_}
 use native.Mathlib.Omega.{arith}
 use lib.ListN.{length}
 use Rattle.total.specs.Total.{limbsOf, addOf, takeOf}
 use Rattle.ledger.specs.Bytes.{fields, splice}
-use Rattle.ledger.specs.Sheet.{classOf, retotal}
+use Rattle.ledger.specs.Sheet.{timesIn, classOf, retotal}
 use Rattle.ledger.specs.Calls.{countsIn, totalIn, recount, revised}
 use Rattle.ledger.specs.laws.Refusals.{length-counts, length-recount, length-totals}
 use Rattle.ledger.specs.laws.Weights.{retotal-is}
@@ -52,6 +52,10 @@ write-totals-requires c κs = search needs
 same-length : tie.Need-same-length
 same-length c = search needs
 
+-- times take two bytes
+two-bytes : (c : tie.After-slice-known2) → c .before .before .before .before .before .before .before .before .before .before .before .before .args .old .times < 65536
+two-bytes c = search needs
+
 returns : tie.Need-returns
 unfolding revised
 returns c =
@@ -61,7 +65,8 @@ returns c =
     let w = c .before .before .write-totals in
     let at = c .before .before .before .before .before .before .before .before .before .totals-place in
     let cs = c .before .before .before .before .before .before .recounted .ensures ∙ (λ i. fields 4 (recount (c .before .before .before .before .before .before .before .read-counts .ensures i) (share-o .0 i) (share-n .0 i) ++ (0 ∷ []))) in
-    let t = c .before .before .before .before .moved .ensures ∙ ap limbsOf ((λ i. addOf (takeOf (totalIn s) (share-o .1 i)) (share-n .1 i)) ∙ retotal-is (totalIn s) o n) in
+    let few : timesIn o < 65536 = rw (← share-o .2) (two-bytes c) in
+    let t = c .before .before .before .before .moved .ensures ∙ ap limbsOf ((λ i. addOf (takeOf (totalIn s) (share-o .2 i) (share-o .1 i)) (share-n .2 i) (share-n .1 i)) ∙ retotal-is (totalIn s) o n few) in
     let d = w .ensures ∙ totals-are (countsIn s) (c .before .before .before .before .before .before .recounted .result) (classOf o) (classOf n) (retotal (totalIn s) o n) (c .before .before .before .before .moved .result) cs t in
     let l = ap length d ∙ length-totals (recount (countsIn s) (classOf o) (classOf n)) (retotal (totalIn s) o n) (length-recount (countsIn s) (classOf o) (classOf n) ∙ length-counts s) in
     let m : length s - at .result ≡ length (w .last .0) = omega (arith, at .ensures .1, l) in

@@ -10,6 +10,9 @@ use Rattle.page.proofs.row.put_row.Tie as tie
 read-row-requires : tie.Need-read-row-requires
 read-row-requires c κs = search needs
 
+row-times-requires : tie.Need-row-times-requires
+row-times-requires c κs = search needs
+
 put-text-requires : tie.Need-put-text-requires
 put-text-requires c κs = search needs
 
@@ -19,10 +22,10 @@ same-length c = search needs
 returns : tie.Need-returns
 unfolding rowLine
 returns c =
-    let a = c .before .before .before .before .before .before .before .before .args in
-    let w = c .before .before .before .before .before .read-row .ensures in
+    let w = c .before .before .before .before .before .before .read-row .ensures in
+    let k = c .before .before .before .before .row-times .ensures in
     let p = c .before .before .put-text .ensures in
-    (simp (eq-eqb _ 48 (rw w at (c .before .before .before .before .if1 .taken))) (rw w at (p .0)), p .1)
+    (simp (eq-eqb _ 48 (rw w at (c .before .before .before .before .before .if1 .taken))) (rw (w, k) at (p .0)), p .1)
 
 returns-2 : tie.Need-returns-2
 unfolding rowLine
@@ -33,4 +36,5 @@ returns-2 c =
 
 pub put-row-spec : {M : Type 1} → statement M
 put-row-spec =
-    tie.close (tie.spec read-row-requires put-text-requires same-length returns returns-2)
+    tie.close
+    (tie.spec read-row-requires row-times-requires put-text-requires same-length returns returns-2)

@@ -55,7 +55,7 @@ returns c =
     let q = c .before .before .put-answers .ensures in
     let first = c .before .before .before .before .before .before .before .before .before .before .before .before .word .ensures in
     let second = c .before .before .before .before .before .before .before .before .before .before .word2 .ensures in (
-      put-both (a .out .now) (a .at) (headText (a .i) (getD w 0 0) (getD w 1 0)) (answersText (answerAt w 32) (answerAt w 40)) (omega (arith, q .1)) (p .0)
+      put-both (a .out .now) (a .at) (headText (a .i) (getD w 0 0) (getD w 1 0)) (answersText (answerAt w 32) (answerAt w 40) (a .times)) (omega (arith, q .1)) (p .0)
           (rw (first, second) at (q .0)),
       omega (arith, q .1),
     )

@@ -8,10 +8,10 @@ use Rattle.replay.proofs.script.shaped.Lts as lts
 use Rattle.replay.proofs.script.after.Reads as after-reads
 
 abbrev Inv-loop : tie.InvT-loop
-Inv-loop s widths at₀ i₀ at i = (i ≤ 6) × (at ≤ 1 + 17 * i)
+Inv-loop s widths at₀ i₀ at i = (i ≤ 7) × (at ≤ 1 + 17 * i)
 
 abbrev μ-loop : tie.MeasureT-loop
-μ-loop s widths at₀ i₀ at i = 6 - i
+μ-loop s widths at₀ i₀ at i = 7 - i
 
 loop-holds : tie.Need-loop-holds Inv-loop μ-loop
 loop-holds c = (omega arith, omega arith)

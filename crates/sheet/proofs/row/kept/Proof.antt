@@ -18,7 +18,7 @@ argument-requires-3 c κs = search needs
 
 returns : tie.Need-returns
 unfolding keptOf
-returns c = λ i. record { function = c .before .before .before .args .entry .function; a = c .before .before .argument .ensures i; b = c .before .argument2 .ensures i; c = c .argument3 .ensures i }
+returns c = λ i. record { function = c .before .before .before .args .entry .function; a = c .before .before .argument .ensures i; b = c .before .argument2 .ensures i; c = c .argument3 .ensures i; times = c .before .before .before .args .entry .times }
 
 pub kept-spec : {M : Type 1} → statement M
 kept-spec = tie.close (tie.spec argument-requires argument-requires-2 argument-requires-3 returns)

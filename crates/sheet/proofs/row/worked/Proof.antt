@@ -42,21 +42,33 @@ mul-t8 c = search needs
 add-t9 : tie.Need-add-t9
 add-t9 c = search needs
 
--- the function number is a byte
-byte : (c : tie.After-struct-known2) → c .before .before .before .before .before .before .args .entry .function < 256
+cast-t10 : tie.Need-cast-t10
+cast-t10 c = search needs
+
+mul-t11 : tie.Need-mul-t11
+mul-t11 c = search needs
+
+add-t12 : tie.Need-add-t12
+add-t12 c = search needs
+
+-- the function number is a byte, and times are two
+byte : (c : tie.After-struct-known3) → c .before .before .before .before .before .before .before .args .entry .function < 256
 byte c = search needs
+
+two : (c : tie.After-struct-known3) → c .before .before .before .before .before .before .before .args .entry .times < 65536
+two c = search needs
 
 returns : tie.Need-returns
 unfolding answered
 returns c =
-    let e = c .before .before .before .before .before .before .args .entry in
-    let z = c .before .before .before .before .before .evaluate in
-    let r = c .before .before .before .before .read in
+    let e = c .before .before .before .before .before .before .before .args .entry in
+    let z = c .before .before .before .before .before .before .evaluate in
+    let r = c .before .before .before .before .before .read in
     let q : r .result .refusal ≡ refusalOf (answerOf e) = ap (λ x. x .refusal) (r .ensures) ∙ ap refusalOf (z .ensures) in
-    let x = c .before .before .before .to-pattern .ensures ∙ ap (λ u. toBits binary64 (u .first)) (r .ensures) ∙ ap (λ u. toBits binary64 (firstOf u)) (z .ensures) in
-    let y = c .before .before .to-pattern2 .ensures ∙ ap (λ u. toBits binary64 (u .second)) (r .ensures) ∙ ap (λ u. toBits binary64 (secondOf u)) (z .ensures) in
-    row-words (e .function) (r .result .refusal) _ (byte c) (omega (arith, q, refusal-byte (e .function) (e .a) (e .b) (e .c)))
-    ∙ (λ i. rowBytes (e .function) (q i) (e .a ∷ e .b ∷ e .c ∷ x i ∷ y i ∷ []))
+    let x = c .before .before .before .before .to-pattern .ensures ∙ ap (λ u. toBits binary64 (u .first)) (r .ensures) ∙ ap (λ u. toBits binary64 (firstOf u)) (z .ensures) in
+    let y = c .before .before .before .to-pattern2 .ensures ∙ ap (λ u. toBits binary64 (u .second)) (r .ensures) ∙ ap (λ u. toBits binary64 (secondOf u)) (z .ensures) in
+    row-words (e .function) (r .result .refusal) (e .times) _ (byte c) (omega (arith, q, refusal-byte (e .function) (e .a) (e .b) (e .c))) (two c)
+    ∙ (λ i. rowBytes (e .function) (q i) (e .times) (e .a ∷ e .b ∷ e .c ∷ x i ∷ y i ∷ []))
 
 pub worked-spec : {M : Type 1} → statement M
 worked-spec =
@@ -70,4 +82,7 @@ worked-spec =
     cast-t7
     mul-t8
     add-t9
+    cast-t10
+    mul-t11
+    add-t12
     returns)

@@ -10,16 +10,20 @@ use Rattle.total.proofs.Total.take.Tie as tie
 parts-requires : tie.Need-parts-requires
 parts-requires c κs = search needs
 
+slice-aggregate-moved : tie.Need-slice-aggregate-moved
+slice-aggregate-moved c = search needs
+
 moved-requires : tie.Need-moved-requires
-moved-requires c κs = parts-small _ _ _ _ _ (c .before .before .parts .ensures)
+moved-requires c κs = let s = parts-small _ _ _ _ _ (c .before .before .before .parts .ensures) in (search needs, s .0, s .1)
 
 returns : tie.Need-returns
 returns c =
-    let p = c .before .before .before .parts in
-    let t = val (c .before .before .before .before .args .self .limbs) in
+    let p = c .before .before .before .before .before .parts in
+    let a = c .before .before .before .before .before .before .args in
+    let t = val (a .self .limbs) in
     let d = p .result .digits in
     let e = p .result .exponent in
-    held (c .moved .result) (t + complement (not (p .result .negative)) (d * 2 ^ e)) _ (c .moved .ensures) (taken (c .before .before .before .before .args .x) (p .result .finite) (p .result .negative) d e (p .ensures) t)
+    held (c .before .moved .last .0) (t + complement (not (p .result .negative)) (a .times * (d * 2 ^ e))) _ (c .before .moved .ensures) (taken (a .x) (p .result .finite) (p .result .negative) d e (p .ensures) t (a .times))
 
 pub take-spec : {M : Type 1} → statement M
-take-spec = tie.close (tie.spec parts-requires moved-requires returns)
+take-spec = tie.close (tie.spec parts-requires slice-aggregate-moved moved-requires returns)

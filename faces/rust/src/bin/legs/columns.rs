@@ -11,9 +11,10 @@ pub enum Title {
     N,
     M,
     Function,
+    Times,
 }
 
-pub const TITLES: [(&str, Title); 7] = [
+pub const TITLES: [(&str, Title); 8] = [
     ("name", Title::Name),
     ("from", Title::From),
     ("to", Title::To),
@@ -21,6 +22,7 @@ pub const TITLES: [(&str, Title); 7] = [
     ("n", Title::N),
     ("m", Title::M),
     ("function", Title::Function),
+    ("times", Title::Times),
 ];
 
 /// What a line says, by the columns that the header has.
@@ -70,9 +72,6 @@ fn places(titles: &[String], ignore_unknown: bool, hint: &str) -> Result<Vec<(Ti
                 return Err((place, "two columns have this title; take one out".into()));
             }
             Some(&(_, known)) => places.push((known, place)),
-            None if title == "times" => {
-                return Err((place, "this version of legs has no times; write a line for each drive and take the column out".into()));
-            }
             None if ignore_unknown => {}
             None => {
                 let known = TITLES.map(|(name, _)| name).join(", ");

@@ -16,6 +16,8 @@ The first line names the columns, in any order:
   function         ellipk, ellipe, ellipke, ellippi, ellipeinc or ellipf, with
                    its arguments in the columns phi, n, m; its first answer,
                    times the half axis
+  times            how often the leg was driven, 0 to 65535; once, where there
+                   is no such column
 
 Options:
   --csv            print CSV, with numbers that read back to the same bits

@@ -11,13 +11,14 @@ pub const A: f64 = 6378137.0;
 pub const B: f64 = 6356752.314245179;
 pub const M: f64 = -0.006739496742276434;
 
-/// A leg: where it was read, and the one or two rows whose answers add up to it.
+/// A leg: where it was read, the one or two rows whose answers add up to it, and how often it was driven.
 #[derive(Debug)]
 pub struct Leg<'a> {
     pub file: usize,
     pub line: usize,
     pub name: Option<Cow<'a, [u8]>>,
     pub rows: (Integral, Option<Integral>),
+    pub times: u16,
 }
 
 /// Why a file does not read, and what to do.
@@ -116,14 +117,29 @@ impl Layout {
         }
     }
 
+    /// How often the leg was driven: once where no column tells.
+    fn times(&self, record: &Record) -> Result<u16, Trouble> {
+        let Some(place) = self.place(Title::Times) else { return Ok(1) };
+        let cell = record.fields[place].trim_ascii();
+        if cell.is_empty() {
+            return Err(self.trouble(record.line, place, "nothing is written here; write how often the leg was driven, such as 1".into()));
+        }
+        let read = std::str::from_utf8(cell).ok().and_then(|text| text.parse().ok());
+        read.ok_or_else(|| {
+            let what = "is no number of times; write a whole one from 0 to 65535, and what is beyond that in another line";
+            self.trouble(record.line, place, format!("{} {what}", shown(cell)))
+        })
+    }
+
     fn leg<'a>(&self, file: usize, record: Record<'a>) -> Result<Leg<'a>, Trouble> {
         if record.fields.len() != self.titles.len() {
             let what = format!("this line has {} fields and the header {}; make them as many", record.fields.len(), self.titles.len());
             return Err(Trouble { line: Some(record.line), column: None, what });
         }
         let rows = self.rows(&record)?;
+        let times = self.times(&record)?;
         let name = self.place(Title::Name).map(|place| record.fields[place].clone());
-        Ok(Leg { file, line: record.line, name, rows })
+        Ok(Leg { file, line: record.line, name, rows, times })
     }
 }
 
@@ -254,7 +270,6 @@ mod tests {
         fails("\u{feff}", "this is empty", "");
         fails("a leg,1,2\n", "line 1, column 1 (a leg)", "legs knows no such column");
         fails("from,to,driver\n", "line 1, column 3 (driver)", "--ignore-unknown");
-        fails("from,to,times\n", "line 1, column 3 (times)", "write a line for each drive");
         fails("from,to,from\n", "line 1, column 3 (from)", "take one out");
         fails("name,from\n", "line 1: the column to is missing", "");
         fails("to\n", "line 1: the column from is missing", "");
@@ -270,7 +285,6 @@ mod tests {
         let ignoring = Manner { ignore_unknown: true, ..COMMA };
         assert!(says(b"from;to\n1;2\n", ignoring)[0].contains("--separator ';'"));
         assert!(says(b"from\tto\n1\t2\n", ignoring)[0].contains("--separator tab"));
-        assert!(says(b"from,to,times\n", ignoring)[0].contains("no times"));
         assert!(says(b"\xff\xfef\0", COMMA)[0].contains("UTF-16"));
     }
 
@@ -291,6 +305,21 @@ mod tests {
         fails(",,", "line 3, column 2 (from)", "");
         fails("\"y,1,2", "line 3, column 1: a quote is opened here and not closed", "");
         fails("\"y\"z,1,2", "line 3, column 1: text follows the closing quote", "");
+    }
+
+    #[test]
+    fn times() {
+        let times = |text: &str| read(0, text.as_bytes(), COMMA).unwrap().1.iter().map(|leg| leg.times).collect::<Vec<_>>();
+        assert_eq!(times("from,to\n1,2\n3,4\n"), [1, 1]);
+        assert_eq!(times("Times,from,to\n3,1,2\n 0 ,3,4\n65535,5,6\n\"7\",5,6\n"), [3, 0, 65535, 7]);
+        assert_eq!(times("phi,m,times\n1,2,3\n"), [3]);
+        assert_eq!(times("function,m,times\nellipk,0.5,4\n"), [4]);
+        for cell in ["65536", "-1", "1.0", "1e3", "x", "2 3", "18446744073709551617"] {
+            let begins = format!("line 2, column 3 (times): \"{cell}\" is no number of times");
+            fails(&format!("from,to,times\n1,2,{cell}\n"), &begins, "from 0 to 65535");
+        }
+        fails("from,to,times\n1,2,\n", "line 2, column 3 (times): nothing is written here", "such as 1");
+        fails("times\n3\n", "line 1: the first line must name the columns", "");
     }
 
     #[test]

@@ -32,11 +32,16 @@ impl Report<'_> {
         self.legs.iter().zip(self.lengths)
     }
 
+    /// What the leg is called, and how often it was driven unless once.
     fn name(&self, leg: &Leg) -> String {
-        match &leg.name {
+        let name = match &leg.name {
             Some(name) => tame(name),
             None if self.files.len() == 1 => format!("line {}", leg.line),
             None => format!("{}, line {}", self.files[leg.file], leg.line),
+        };
+        match leg.times {
+            1 => name,
+            times => format!("{name}, driven {times} times"),
         }
     }
 
@@ -59,7 +64,7 @@ impl Report<'_> {
 
     /// Each line has all columns; `what` tells legs, counts and the total apart. Numbers read back to the same bits.
     pub fn csv(&self, to: &mut impl Write, separator: u8) -> io::Result<()> {
-        let mut line = |fields: [&[u8]; 8]| {
+        let mut line = |fields: [&[u8]; 9]| {
             for (k, field) in fields.into_iter().enumerate() {
                 if k > 0 {
                     to.write_all(&[separator])?;
@@ -68,21 +73,21 @@ impl Report<'_> {
             }
             to.write_all(b"\n")
         };
-        line(["what", "file", "line", "name", "metres", "count", "refusal", "why"].map(str::as_bytes))?;
+        line(["what", "file", "line", "name", "metres", "count", "refusal", "why", "times"].map(str::as_bytes))?;
         for (leg, length) in self.each() {
             let (metres, refusal, why) = match length {
                 Length::Finite(length) => (format!("{length:?}"), String::new(), ""),
                 Length::Infinite { below } => (if *below { "-inf" } else { "inf" }.into(), String::new(), NOT_IN_THE_TOTAL),
                 Length::Refused(refusal) => (String::new(), refusal.number().to_string(), refusal.message()),
             };
-            let (file, number) = (self.files[leg.file].as_bytes(), leg.line.to_string());
+            let (file, number, times) = (self.files[leg.file].as_bytes(), leg.line.to_string(), leg.times.to_string());
             let name = leg.name.as_deref().unwrap_or_default();
-            line([b"leg", file, number.as_bytes(), name, metres.as_bytes(), b"", refusal.as_bytes(), why.as_bytes()])?;
+            line([b"leg", file, number.as_bytes(), name, metres.as_bytes(), b"", refusal.as_bytes(), why.as_bytes(), times.as_bytes()])?;
         }
         for (count, class) in self.sums.counts.iter().zip(CLASSES) {
-            line([b"count", b"", b"", class.as_bytes(), b"", count.to_string().as_bytes(), b"", b""])?;
+            line([b"count", b"", b"", class.as_bytes(), b"", count.to_string().as_bytes(), b"", b"", b""])?;
         }
-        line([b"total", b"", b"", b"", format!("{:?}", self.sums.total).as_bytes(), b"", b"", b""])
+        line([b"total", b"", b"", b"", format!("{:?}", self.sums.total).as_bytes(), b"", b"", b"", b""])
     }
 }
 

@@ -1,14 +1,14 @@
 //! From legs to lengths: as many sheets as it takes, their counts, and the exact total over all.
 use crate::exact::Exact;
 use crate::input::Leg;
-use shuttlemint::{Class, Integral, Refusal, Sheet};
+use shuttlemint::{Class, Refusal, Sheet};
 
 const MOST_ROWS: u32 = 1024;
 
 /// What became of a leg.
 #[derive(Clone, Copy, Debug, PartialEq)]
 pub enum Length {
-    /// In metres: the exact sum of its rows' answers, times the half axis, rounded once.
+    /// One drive, in metres: the exact sum of its rows' answers, times the half axis, rounded once.
     Finite(f64),
     /// The answer is an infinity of this sign, and in no total.
     Infinite { below: bool },
@@ -20,7 +20,7 @@ pub enum Length {
 pub struct Sums {
     /// Rows that are blank, finite, +∞, -∞ and refused, as the sheets count them.
     pub counts: [u64; 5],
-    /// The exact total over all sheets, times the half axis, rounded once.
+    /// The exact total over all sheets, each leg as often as it was driven, times the half axis, rounded once.
     pub total: f64,
     pub sheets: usize,
 }
@@ -39,12 +39,13 @@ fn fitting(legs: &[Leg]) -> (usize, u32) {
 }
 
 /// Enters a leg's rows from this row on, and tells its length.
-fn enter(sheet: &mut Sheet, first: u32, rows: (Integral, Option<Integral>), axis: f64) -> Result<Length, Refusal> {
+fn enter(sheet: &mut Sheet, first: u32, leg: &Leg, axis: f64) -> Result<Length, Refusal> {
+    let rows = leg.rows;
     let integrals = [Some(rows.0), rows.1];
     let mut sum = Exact::ZERO;
     let mut length = None;
     for (row, integral) in (first..).zip(integrals.into_iter().flatten()) {
-        sheet.enter(row, integral)?;
+        sheet.enter_times(row, integral, leg.times)?;
         match sheet.row(row)?.values() {
             Err(refusal) => length = Some(Length::Refused(refusal)),
             Ok([answer, _]) => match Exact::of(answer) {
@@ -75,7 +76,7 @@ pub fn work(legs: &[Leg], axis: f64, mut keep: impl FnMut(Sheet), mut done: impl
         let mut sheet = Sheet::blank(rows)?;
         let mut row = 0;
         for leg in &rest[..fit] {
-            lengths.push(enter(&mut sheet, row, leg.rows, axis)?);
+            lengths.push(enter(&mut sheet, row, leg, axis)?);
             row += 1 + leg.rows.1.is_some() as u32;
         }
         rest = &rest[fit..];
@@ -95,9 +96,10 @@ pub fn work(legs: &[Leg], axis: f64, mut keep: impl FnMut(Sheet), mut done: impl
 mod tests {
     use super::*;
     use crate::input::{B, M};
+    use shuttlemint::Integral;
 
     fn legs(rows: impl IntoIterator<Item = (Integral, Option<Integral>)>) -> Vec<Leg<'static>> {
-        rows.into_iter().map(|rows| Leg { file: 0, line: 0, name: None, rows }).collect()
+        rows.into_iter().map(|rows| Leg { file: 0, line: 0, name: None, rows, times: 1 }).collect()
     }
 
     fn plain(x: f64) -> (Integral, Option<Integral>) {
@@ -143,6 +145,25 @@ mod tests {
         // The same legs in any order.
         let (_, again, _) = worked(&legs((0..count).rev().map(leg)));
         assert_eq!(again.total, 4998.0);
+    }
+
+    #[test]
+    fn a_leg_driven_often_is_as_good_as_often_a_leg() {
+        let pair = (Integral::ellipeinc(1.0, M), Some(Integral::ellipeinc(-0.5, M)));
+        let mut driven = legs([pair, plain(1e300), plain(0.1), plain(-1e300), (Integral::ellippi(1.0, 0.5), None)]);
+        for (leg, times) in driven.iter_mut().zip([3, 65535, 1000, 65535, 2]) {
+            leg.times = times;
+        }
+        let (lengths, sums, sheets) = worked(&driven);
+        assert_eq!(sums.counts, [0, 5, 0, 0, 1]);
+        assert_eq!(sheets[0].iter().map(|row| row.times()).collect::<Vec<_>>(), [3, 3, 65535, 1000, 65535, 2]);
+        let singly = [vec![pair; 3], vec![plain(0.1); 1000]].concat();
+        let (once, again, _) = worked(&legs(singly));
+        assert_eq!(sums.total.to_bits(), again.total.to_bits());
+        // A leg's own length is that of one drive.
+        assert_eq!((lengths[0], lengths[2]), (once[0], Length::Finite(0.1)));
+        driven[0].times = 0;
+        assert_eq!(worked(&driven[..1]).1.total.to_bits(), 0);
     }
 
     #[test]

@@ -5,13 +5,14 @@ use Rattle.laws.specs.Ladder.{when_gives_else_}
 use Rattle.demands.specs.Edits.{Edit, accepted}
 use Rattle.page.specs.Text.{decimal, pattern, space}
 
--- an edit as it is written: five numbers, one space apart
-unfoldable pub editText : ℕ → ℕ → ℕ → ℕ → ℕ → List ℕ
-editText row function a b c = decimal row ++ (space ++ (decimal function ++ (space ++ (pattern a ++ (space ++ (pattern b ++ (space ++ pattern c)))))))
+-- an edit as it is written: six numbers, one space apart
+unfoldable pub editText : ℕ → ℕ → ℕ → ℕ → ℕ → ℕ → List ℕ
+editText row function a b c times =
+    decimal row ++ (space ++ (decimal function ++ (space ++ (pattern a ++ (space ++ (pattern b ++ (space ++ (pattern c ++ (space ++ decimal times)))))))))
 
 -- the line of an edit
 abbrev pub textOf : Edit → List ℕ
-textOf e = editText (e .row) (e .entry .function) (e .entry .a) (e .entry .b) (e .entry .c)
+textOf e = editText (e .row) (e .entry .function) (e .entry .a) (e .entry .b) (e .entry .c) (e .entry .times)
 
 -- lines of edits, each with its line end
 unfoldable pub editLines : List Edit → List ℕ
@@ -29,6 +30,7 @@ pub record Fits (e : Edit) : Type 0 where
   pub a : e .entry .a < 2 ^ 64
   pub b : e .entry .b < 2 ^ 64
   pub c : e .entry .c < 2 ^ 64
+  pub times : e .entry .times < 2 ^ 16
 
 abbrev pub AllFit : List Edit → Type 0
 AllFit [] = Unit {0}

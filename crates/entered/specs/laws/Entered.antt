@@ -15,11 +15,11 @@ use Rattle.demands.specs.Edits.{Edit, answer, after, run, answerIn, accepted, f
 use Rattle.demands.specs.Demand3.{demand-3}
 use Rattle.page.specs.Text.{decimal}
 use Rattle.page.specs.Page.{pageOf, badLine}
 use Rattle.engine.specs.Run.{Outcome, Start, Sheet, Bad, zeros, countOn, editOn, lineOn, linesOn, linesOf, printed, runOf}
-use Rattle.engine.specs.Input.{textOf, editLines, sheetText, AllFit, Fits, refusedLine}
-use Rattle.engine.specs.laws.Holding.{length-zeros}
+use Rattle.entered.specs.Input.{textOf, editLines, sheetText, AllFit, Fits, refusedLine}
+use Rattle.engine.specs.laws.Lengths.{length-zeros}
 use Rattle.engine.specs.laws.Whole.{lines-bad}
-use Rattle.engine.specs.laws.Written.{read-decimal, written, from-decimal, from-less, cut-before, no-end}
+use Rattle.entered.specs.laws.Written.{read-decimal, written, from-decimal, from-less, cut-before, no-end}
 
 -- ---- its lines
 
@@ -31,7 +31,7 @@ lines-edits : (es : List Edit) → cut 10 [] (editLines es) ≡ texts es
 unfolding editLines texts cut
 lines-edits [] = refl
 lines-edits (e ∷ es) =
-    cut-before 10 [] (textOf e) (editLines es) (no-end (e .row) (e .entry .function) (e .entry .a) (e .entry .b) (e .entry .c)) ∙ ap (λ (ls : List (List ℕ)). textOf e ∷ ls) (lines-edits es)
+    cut-before 10 [] (textOf e) (editLines es) (no-end (e .row) (e .entry .function) (e .entry .a) (e .entry .b) (e .entry .c) (e .entry .times)) ∙ ap (λ (ls : List (List ℕ)). textOf e ∷ ls) (lines-edits es)
 
 lines-entered : (r : ℕ) (es : List Edit) → linesOf (sheetText r es) ≡ decimal r ∷ texts es
 unfolding linesOf sheetText
@@ -67,7 +67,7 @@ module _ (r : ℕ) (few : r ≤ mostRows) where
   one-edit : (k : ℕ) (done : List Edit) (e : Edit) → Fits e → editOn k (sheet done) (lineOf (textOf e)) ≡ cond (accepted r e) (Sheet (sheet (done ++ (e ∷ [])))) (Bad k)
   unfolding editOn accepted sheet z
   one-edit k done e fits =
-      rw (written (e .row) (e .entry .function) (e .entry .a) (e .entry .b) (e .entry .c) (fits .row) (fits .function) (fits .a) (fits .b) (fits .c))
+      rw (written (e .row) (e .entry .function) (e .entry .a) (e .entry .b) (e .entry .c) (e .entry .times) (fits .row) (fits .function) (fits .a) (fits .b) (fits .c) (fits .times))
       (rw (refused-as done e, run-more (blankOf z r) done e) refl)
 
   edits : (k : ℕ) (done es : List Edit) → AllFit es → 0 < k

@@ -15,6 +15,7 @@ ROOT = os.path.join(os.path.dirname(os.path.abspath(__file__)), '..')
 PART = 4096  # bytes that the program reads at a time
 MOST = 1024  # rows
 LAST = 6     # the last function's number
+WITHDRAWN = 1  # the function that no edit takes
 OFTEN = 65535  # the most times
 
 # ---- floats
@@ -116,7 +117,7 @@ def run(data):
         if not m:
             return b'bad line %d\n' % k
         row, f, times = number(m[1]), number(m[2]), number(m[6])
-        if row >= len(rows) or f > LAST or times > OFTEN:
+        if row >= len(rows) or f == WITHDRAWN or f > LAST or times > OFTEN:
             return b'bad line %d\n' % k
         rows[row] = BLANK if f == 0 else (f,) + evaluate(f, int(m[3], 16), int(m[4], 16)) + (times,)
     if rows is None:
@@ -162,7 +163,7 @@ def random_edit(rng, rows):
         return edit(row, 5, p, rng.choice([0, 1 << 63]), rng.getrandbits(64), times)
     special = [0x3ff0000000000000, 0xfff0000000000000, 0x7ff8000000000000, 0x7ff0000000000000, 0x4008000000000000, 0xfff8000000000001]
     if kind < 8:
-        return edit(row, rng.choice([1, 2, 3]), rng.choice(special), rng.getrandbits(64), rng.getrandbits(64), times)
+        return edit(row, rng.choice([2, 3, 3]), rng.choice(special), rng.getrandbits(64), rng.getrandbits(64), times)
     if kind < 10:
         n = rng.choice(special[:1] + special[2:3]) if rng.random() < .4 else rng.getrandbits(64)
         return edit(row, 4, n, rng.choice(special), rng.getrandbits(64), times)
@@ -209,7 +210,7 @@ def cases():
     yield 'total_tie_up', b'2\n' + leg(0, LARGEST) + leg(1, 2.0 ** 970)
     yield 'total_below_tie', b'3\n' + leg(0, LARGEST) + leg(1, 2.0 ** 970) + leg(2, -2.0 ** -1074)
     yield 'total_any_order', b'4\n' + leg(3, 1e300) + leg(1, 1.0) + leg(2, -1e300) + leg(0, 2.0 ** -1074)
-    yield 'refusals', b'6\n' + edit(0, 1, NAN) + edit(1, 2, pattern(2.0)) + edit(2, 4, pattern(1.0)) + edit(3, 5, NAN, pattern(2.0)) + edit(4, 5, pattern(1.0), NAN)
+    yield 'refusals', b'6\n' + edit(0, 3, NAN) + edit(1, 2, pattern(2.0)) + edit(2, 4, pattern(1.0)) + edit(3, 5, NAN, pattern(2.0)) + edit(4, 5, pattern(1.0), NAN)
     yield 'first_kind', b'7\n' + edit(0, 6, pattern(1.5), 0, 7) + edit(1, 6, NAN) + edit(2, 6, pattern(2.0), pattern(1.0)) + edit(3, 6, pattern(-INF), pattern(0.5)) + edit(4, 6, pattern(1.0), pattern(-INF)) + edit(5, 6, pattern(-0.0), pattern(0.5)) + edit(6, 6, pattern(2.0 ** 53), pattern(-INF))
     yield 'times_0', b'2\n' + leg(0, 1.5, 0) + leg(1, 2.5)
     yield 'times_3', b'3\n' + leg(0, 2.0, 3) + leg(1, -0.5, 3) + leg(2, 2.5)
@@ -240,6 +241,7 @@ def cases():
                        ('five_fields', b' '.join(FIELDS[:5]) + b'\n'), ('clear_five_fields', b' '.join(with_field(1, b'0').split(b' ')[:5]) + b'\n'), ('seven_fields', GOOD[:-1] + b' 0\n'), ('nul', with_field(0, b'\0')), ('nul_at_end', GOOD[:-1] + b'\0\n'), ('not_ascii', with_field(0, b'\xc3\xa9')),
                        ('row_8', with_field(0, b'1')), ('row_wraps_32', with_field(0, b'4294967296')), ('row_wraps_64', with_field(0, b'18446744073709551616')),
                        ('row_ten_digits', with_field(0, b'4294967295')), ('row_eleven_digits', with_field(0, b'10000000000')),
+                       ('function_1', with_field(1, b'1')), ('function_1_no_such_row', with_field(0, b'1').replace(b' 5 ', b' 1 ')), ('function_1_nan', edit(0, 1, NAN)), ('function_1_never_driven', edit(0, 1, times=0)),
                        ('function_past_the_last', with_field(1, b'%d' % (LAST + 1))), ('function_255', with_field(1, b'255')), ('function_256', with_field(1, b'256')), ('function_261', with_field(1, b'261')),
                        ('function_wraps_32', with_field(1, b'4294967301')), ('times_65536', with_field(5, b'65536')), ('times_65537', with_field(5, b'65537')), ('times_007', with_field(5, b'007')),
                        ('times_two_zeros', with_field(5, b'00')), ('no_times', with_field(5, b'')), ('times_hex', with_field(5, b'a')), ('times_minus', with_field(5, b'-1')), ('times_plus', with_field(5, b'+1')),
@@ -247,6 +249,7 @@ def cases():
                        ('times_eleven_digits', with_field(5, b'10000000001')), ('clear_times_65536', b' '.join([b'0', b'0'] + FIELDS[2:5] + [b'65536']) + b'\n'), ('spaces', b'     \n'), ('83_bytes', b' '.join([b'4294967295'] * 2 + FIELDS[2:5] + [b'4294967295']) + b'\n'), ('84_bytes', GOOD[:-1] + b' ' * 28 + b'\n'), ('long', GOOD[:-1] + b'0' * 10000 + b'\n'),
                        ('long_spaces', b' ' * 5000 + b'\n'), ('sentence', b'bad line 7\n')]:
         yield 'line_' + name, one + line + GOOD
+    yield 'function_1_after_the_rest', b'2\n' + leg(0, 1.5) + edit(1, 3, pattern(1.0)) + edit(1, 1, pattern(1.0)) + edit(1, 0)
     yield 'line_after_the_last', one + GOOD + b'\n'
     yield 'line_bad_no_end', one + GOOD + GOOD[:-2]
     yield 'line_far_on', many(3, 7, 500) + b'7' + GOOD[1:] + GOOD
@@ -276,9 +279,12 @@ def program():
     return command
 
 def damaged(rng):
-    """A good input with up to three bytes changed, put in, taken out, or lines moved about."""
+    """A good input with up to three bytes changed, put in, taken out or repeated, and at times a line to function 1."""
     rows = rng.choice([0, 1, 2, 3, 9, 10, 11, 100, 1024])
     text = bytearray(many(rng.random(), rows, rng.randrange(12) if rows else 0))
+    edits = [m.start(1) for m in re.finditer(rb'(?m)^[0-9]+ ([0-9]) ', text)]
+    if edits and rng.randrange(20) == 0:
+        text[rng.choice(edits)] = b'1'[0]
     for _ in range(rng.randrange(4)):
         at, byte = rng.randrange(len(text) + 1), rng.choice(b'0123456789abcdefg \n\r\t\0A+-x') if rng.random() < .9 else rng.randrange(256)
         what = rng.randrange(4)

@@ -19,6 +19,7 @@ m = 0, at an angle of 0 or far out, at m = -∞, the others at their ends and re
 import math, random, struct, sys
 
 MOST_ROWS, ROW, TOTALS, LAST = 1024, 48, 296, 6
+WITHDRAWN = 1                                               # no new row has it; rows that stand are as any other
 NAN, PLUS, MINUS = 0x7ff8000000000000, 0x7ff0000000000000, 0xfff0000000000000
 ONE, TOP, SIGN = 0x3ff0000000000000, 0x7fefffffffffffff, 1 << 63
 HALF_PI, FAR = 0x3ff921fb54442d18, 0x4330000000000000       # π/2 and 2^52
@@ -102,6 +103,9 @@ def contents(r, says=NEW): return u32(says, 32, 48 * r, r, 2, 32 + 48 * r, 296, 
 def times_in(row): return row[2] + 256 * row[3]
 
 
+def new_row(f, args, answers, times): return struct.pack('<BBHI5Q', f, answers[0], times if f else 0, 0, *args, *answers[1:])
+
+
 def share(row):
     """A row's class (0 blank, 1 finite, 2 +∞, 3 -∞, 4 refused, None) and what it brings to the total: its times multiplied by its first answer."""
     first, = struct.unpack_from('<Q', row, 32)
@@ -144,21 +148,25 @@ class Sheet:
         if not self.may_be_edited(): return 7
         r = self.rows()
         if i >= r: return 8
+        if f == WITHDRAWN: return 22
         if f > LAST: return 9
         row, counts = self.row(i), self.counts(r)
         first, = struct.unpack_from('<Q', row, 32)
-        old, value = share(row)
-        if row[0] > LAST or row[1] > 6 or is_nan(first) or sum(counts) != r or counts[old] == 0: return 10
+        if row[0] > LAST or row[1] > 6 or is_nan(first) or sum(counts) != r or counts[share(row)[0]] == 0: return 10
         args = [x if k < USED[f] else 0 for k, x in enumerate((a, b, c))]
-        q, x, y = evaluate(f, args[0], args[1])
-        new_row = struct.pack('<BBHI5Q', f, q, times if f else 0, 0, *args, x, y)
-        new, added = share(new_row)
+        self.put(i, new_row(f, args, evaluate(f, args[0], args[1]), times))
+        return 0
+
+    def put(self, i, row):
+        """This row in place of another, and the totals with it."""
+        r = self.rows()
+        counts = self.counts(r)
+        (old, taken), (new, added) = share(self.row(i)), share(row)
         counts[old] -= 1
         counts[new] += 1
-        total = (self.number(r) - value + added) % MODULUS
-        self.b[32 + 48 * i:80 + 48 * i] = new_row
+        total = (self.number(r) - taken + added) % MODULUS
+        self.b[32 + 48 * i:80 + 48 * i] = row
         self.b[32 + 48 * r:] = u32(*counts, 0) + total.to_bytes(272, 'little')
-        return 0
 
     def read(self, i):
         r = self.rows()
@@ -201,7 +209,7 @@ def make(r): out.append('M %08x %02x' % (r, sheet.make(r)))
 
 
 def edit(i, f, a=0, b=0, c=0, times=1):
-    if f <= LAST and evaluate(f, a, b) is None: raise ValueError('no rule names this answer: %d %x %x' % (f, a, b))
+    if f <= LAST and f != WITHDRAWN and evaluate(f, a, b) is None: raise ValueError('no rule names this answer: %d %x %x' % (f, a, b))
     out.append('E %08x %02x %016x %016x %016x %04x %02x' % (i, f, a, b, c, times, sheet.edit(i, f, a, b, c, times)))
 
 
@@ -211,6 +219,14 @@ def clear(i): out.append('C %08x %02x' % (i, sheet.edit(i, 0, 0, 0, 0, 0)))
 def poke(p, x):
     sheet.b[p] = x
     out.append('P %08x %02x' % (p, x))
+
+
+def stand(i, a, answers, times=1):
+    """A row of function 1 in the sheet's row i, and the totals with it, byte by byte: as it stands there, entered before."""
+    before = bytes(sheet.b)
+    sheet.put(i, new_row(WITHDRAWN, [a, 0, 0], answers, times))
+    for p, (x, y) in enumerate(zip(before, bytes(sheet.b))):
+        if x != y: poke(p, y)
 
 
 def read(i):
@@ -267,7 +283,7 @@ def any_edit(rng, rows):
     i = rng.choice([rng.randrange(rows) if rows else 0] * 9 + [rows])
     pick = rng.randrange(12)
     if pick == 0: clear(i)
-    elif pick == 1: edit(i, rng.choice([0, 7, 8, 255]), value(rng), value(rng), value(rng), often(rng))
+    elif pick == 1: edit(i, rng.choice([0, 1, 7, 8, 255]), value(rng), value(rng), value(rng), often(rng))
     elif pick < 5: f, a, b = rng.choice(CORNERS); edit(i, f, a, b, value(rng), often(rng))
     else: edit(i, rng.choice([5, 6]), value(rng), rng.choice([0, SIGN]), value(rng), often(rng))
 
@@ -300,7 +316,7 @@ def damage(rng):
         total(); read(0); edit(0, 5, value(rng), 0, 0, often(rng)); total(); check()
 
 
-OF_EACH_CLASS = [(0, 0, 0), (5, ONE, 0), (1, ONE, 0), (4, 0x4000000000000000, ONE), (4, ONE, ONE)]
+OF_EACH_CLASS = [(0, 0, 0), (5, ONE, 0), (3, ONE, 0), (4, 0x4000000000000000, ONE), (4, ONE, ONE)]
 
 
 def repaired(rng):
@@ -402,9 +418,40 @@ def old_sheets(rng):
     for p, x in ((32, 7), (33, 200), (71, 0xff), (70, 0xff), (80, 9)): poke(p, x); all_reads([0]); edit(0, 5, ONE, 0)
 
 
+# What rows of function 1 say that were entered before: each class but blank and -∞, and two finite answers, K(0) and K(0.5).
+STANDING = [(0, (0, HALF_PI, 0)), (0x3fe0000000000000, (0, 0x3ffdaa4a35759e4c, 0)), (ONE, (0, PLUS, 0)), (MINUS, (0, 0, 0)), (NAN, (1, 0, 0)), (ONE + 1, (2, 0, 0))]
+
+
+def withdrawn(rng):
+    """Function 1 goes out: an edit to it is 22, after 7 and 8 and before 10. Rows of it that stand are read, counted, totalled, replaced and cleared."""
+    for a, answers in STANDING:
+        new(424); make(2); edit(1, 5, SIGN + ONE, 0, 0, 3)
+        for times in (1, 0, MOST_TIMES):
+            stand(0, a, answers, times); all_reads([0, 1]); afresh()
+            for i in (0, 1, 2, 0xffffffff): edit(i, 1, a, value(rng), value(rng), often(rng))
+            check(); edit(0, *OF_EACH_CLASS[rng.randrange(1, 5)], 0, often(rng)); all_reads([0]); afresh()
+            stand(0, a, answers, times); edit(1, 5, value(rng), 0, 0, often(rng)); clear(0); all_reads([0, 1]); afresh()
+            edit(0, 1, ONE); edit(0, 9); check()
+    # over each kind of damage, and in place of it: 22 where another function is 10
+    for p, x in ((32, 7), (33, 7), (71, 0xff), (80, 9), (80, 0), (84, 0)):
+        for old in (1, 5):
+            new(376); make(1)
+            if old == 1: stand(0, *STANDING[0])
+            else: edit(0, 5, ONE, 0)
+            if p == 71: poke(70, 0xf8)
+            poke(p, x); all_reads([0]); edit(0, 1, 0); edit(0, 5, ONE, 0); edit(0, 9); edit(1, 1); clear(0); check()
+    # 7 comes first: bytes that are no sheet, and a sheet that is only read
+    for says in (OLD, 2):
+        new(424); make(2); stand(1, *STANDING[1]); make_old(); poke(0, says); all_reads([0, 1])
+        for i in range(3): edit(i, 1, 0)
+        clear(1); check()
+    new(328); make(0); edit(0, 1); all_reads([0])
+
+
 def wander(rng):
     for r, n in ((1, 60), (5, 400), (32, 300), (1024, 400)):
         new(328 + 48 * r); make(r)
+        for i in rng.sample(range(r), r // 3 if r < 32 else 8): stand(i, *rng.choice(STANDING), often(rng))
         for k in range(n):
             any_edit(rng, r)
             if k % 10 == 9: total()
@@ -415,7 +462,7 @@ def wander(rng):
 def script(rng):
     """All parts; the lines are in `out`."""
     example()
-    for part in (sizes, repaired, orders, ties, times_driven, limbs, old_sheets, wander, damage): part(rng)
+    for part in (sizes, repaired, orders, ties, times_driven, limbs, old_sheets, withdrawn, wander, damage): part(rng)
 
 
 def main():

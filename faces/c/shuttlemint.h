@@ -44,13 +44,14 @@ enum {
     SM_NO_SUCH_FUNCTION = 9,    /* the function number is above the last */
     SM_DAMAGED = 10,            /* the row to be replaced, or the counts, are damaged */
     SM_TOO_MANY_ROWS = 11,      /* more than 1,024 rows are asked for */
-    SM_OUTSIDE_THE_KERNEL = 12  /* a logarithm, sine or cosine outside its range; no call below gives it */
+    SM_OUTSIDE_THE_KERNEL = 12, /* a logarithm, sine or cosine outside its range; no call below gives it */
+    SM_WITHDRAWN_FUNCTION = 22  /* an edit to function 1, which goes out: enter function 3, whose first answer is K(m) too */
 };
 
 /* Functions by number, with their arguments a, b and answers. Those not named are not read, and 0. */
 enum {
     SM_BLANK = 0,     /* no function: a blank row */
-    SM_ELLIPK = 1,    /* a = m; K(m) */
+    SM_ELLIPK = 1,    /* a = m; K(m). Goes out: rows of it stand, and no new one is entered */
     SM_ELLIPE = 2,    /* a = m; E(m) */
     SM_ELLIPKE = 3,   /* a = m; K(m), E(m) */
     SM_ELLIPPI = 4,   /* a = n, b = m; Pi(n, m) */
@@ -96,8 +97,8 @@ static inline uint8_t sm_ellipf(double phi, double m, double *f);
 
 /* Works out the integral and puts it in the row, in place of what stands there, as a leg that was driven once; the counts and the total follow. Gives 0; or 7,
    8 or 10, tried in this order. A refusal of the integral itself, 1 to 6, is no refusal of the call: the row keeps it, with zeros for answers, and the call
-   gives 0. sm_clear makes the row blank. sm_blank, below, makes a sheet. */
-static inline uint8_t sm_enter_ellipk(uint8_t *sheet, size_t sheet_length, uint32_t row, double m);
+   gives 0. sm_clear makes the row blank. sm_blank, below, makes a sheet. There is no call that enters ellipk, which goes out: sm_enter_ellipke keeps K(m) and
+   E(m). */
 static inline uint8_t sm_enter_ellipe(uint8_t *sheet, size_t sheet_length, uint32_t row, double m);
 static inline uint8_t sm_enter_ellipke(uint8_t *sheet, size_t sheet_length, uint32_t row, double m);
 static inline uint8_t sm_enter_ellippi(uint8_t *sheet, size_t sheet_length, uint32_t row, double n, double m);
@@ -106,7 +107,7 @@ static inline uint8_t sm_enter_ellipf(uint8_t *sheet, size_t sheet_length, uint3
 static inline uint8_t sm_clear(uint8_t *sheet, size_t sheet_length, uint32_t row);
 
 /* The same for a leg that was driven so often, 0 to 65,535 times, by the function's number: its arguments a and b as doubles, 0 for one that it does not read.
-   Gives 0; or 7, 8, 9 or 10. C cuts a larger number of times to 16 bits without a word where it is no constant (gcc's -Wconversion tells): test it before. */
+   Gives 0; or 7, 8, 22, 9 or 10. C cuts a larger number of times to 16 bits without a word where it is no constant (gcc's -Wconversion tells): test it before. */
 static inline uint8_t sm_enter_times(uint8_t *sheet, size_t sheet_length, uint32_t row, uint8_t function, double a, double b, uint16_t times);
 
 /* A row as it stands in the sheet. Times are 1 for a row of a sheet that says 1, or 0 where it is blank. */
@@ -161,8 +162,8 @@ uint8_t sm_blank(uint8_t *sheet, size_t sheet_length, uint32_t rows);
 
 /* Works out the function of this number and puts it in the row, in place of what stands there, as a leg that was driven so many times; the counts and the
    total follow. To function 0, it clears the row, whatever the times. Arguments that the function does not read are stored as zeros. Gives 0; or 7 (also for a
-   sheet that says 1), 8, 9 or 10, tried in this order. A refusal of the function itself, 1 to 6, is no refusal of the edit: the row keeps it, with zeros for
-   answers, and the edit gives 0. */
+   sheet that says 1), 8, 22 (function 1), 9 or 10, tried in this order. A refusal of the function itself, 1 to 6, is no refusal of the edit: the row keeps it,
+   with zeros for answers, and the edit gives 0. A row of function 1 that stands there is read, replaced and cleared as any other. */
 uint8_t sm_edit(uint8_t *sheet, size_t sheet_length, uint32_t row, uint8_t function, uint64_t a, uint64_t b, uint64_t c, uint16_t times);
 
 /* Where the row's own 48 bytes start in the sheet; sheet_length where the row can't be read. sm_row_refusal says why: 7, then 8, or 0. */
@@ -254,11 +255,6 @@ static inline uint8_t sm_ellipf(double phi, double m, double *f) { return sm_fir
 static inline uint8_t sm_enter_times(uint8_t *sheet, size_t sheet_length, uint32_t row, uint8_t function, double a, double b, uint16_t times)
 {
     return sm_edit(sheet, sheet_length, row, function, sm_pattern(a), sm_pattern(b), 0, times);
-}
-
-static inline uint8_t sm_enter_ellipk(uint8_t *sheet, size_t sheet_length, uint32_t row, double m)
-{
-    return sm_enter_times(sheet, sheet_length, row, SM_ELLIPK, m, 0, 1);
 }
 
 static inline uint8_t sm_enter_ellipe(uint8_t *sheet, size_t sheet_length, uint32_t row, double m)

@@ -142,14 +142,14 @@ static void doubles(void)
         uint8_t *sheet = blank(7), raw[SM_SHEET_BYTES(7)];
         sm_row row;
         CHECK(sm_blank(raw, length, 7) == 0);
-        CHECK(sm_enter_ellipk(sheet, length, 0, 0.5) == 0 && sm_edit(raw, length, 0, SM_ELLIPK, sm_pattern(0.5), 0, 0, 1) == 0);
+        CHECK(sm_enter_ellipke(sheet, length, 0, 0.5) == 0 && sm_edit(raw, length, 0, SM_ELLIPKE, sm_pattern(0.5), 0, 0, 1) == 0);
         CHECK(sm_enter_ellipe(sheet, length, 1, 0.25) == 0 && sm_edit(raw, length, 1, SM_ELLIPE, sm_pattern(0.25), 0, 0, 1) == 0);
         CHECK(sm_enter_ellipke(sheet, length, 2, -3.0) == 0 && sm_edit(raw, length, 2, SM_ELLIPKE, sm_pattern(-3.0), 0, 0, 1) == 0);
         CHECK(sm_enter_ellippi(sheet, length, 3, 1.0, 0.5) == 0 && sm_edit(raw, length, 3, SM_ELLIPPI, ONE, sm_pattern(0.5), 0, 1) == 0);
         CHECK(sm_enter_ellipeinc(sheet, length, 4, 100000.0, 0.0) == 0 && sm_edit(raw, length, 4, SM_ELLIPEINC, sm_pattern(1e5), 0, 0, 1) == 0);
         CHECK(sm_enter_ellipf(sheet, length, 5, 0.75, 0.5) == 0 &&
               sm_edit(raw, length, 5, SM_ELLIPF, sm_pattern(0.75), sm_pattern(0.5), 0, 1) == 0);
-        CHECK(sm_enter_ellipk(sheet, length, 6, 0.5) == 0 && sm_clear(sheet, length, 6) == 0);
+        CHECK(sm_enter_ellipke(sheet, length, 6, 0.5) == 0 && sm_clear(sheet, length, 6) == 0);
         CHECK(sm_enter_times(sheet, length, 6, SM_ELLIPF, 0.75, 0.5, 300) == 0 &&
               sm_edit(raw, length, 6, SM_ELLIPF, sm_pattern(0.75), sm_pattern(0.5), 0, 300) == 0);
         CHECK(memcmp(sheet, raw, length) == 0);
@@ -162,8 +162,9 @@ static void doubles(void)
         CHECK(sm_read(sheet, length, 3, &row) == 0 && row.refusal == SM_CHARACTERISTIC_ONE && row.answers[0] == 0.0 && row.arguments[1] == 0.5);
         CHECK(sm_read(sheet, length, 7, &row) == SM_NO_SUCH_ROW && row.function == 0 && row.refusal == 0 && row.times == 0 && row.arguments[0] == 0.0);
         CHECK(sm_read(sheet, length - 1, 0, &row) == SM_NOT_A_SHEET && sm_sum(sheet, length - 1) == 0.0);
-        CHECK(sm_enter_ellipk(sheet, length, 7, 0.5) == SM_NO_SUCH_ROW && sm_clear(sheet, length, 7) == SM_NO_SUCH_ROW);
+        CHECK(sm_enter_ellipke(sheet, length, 7, 0.5) == SM_NO_SUCH_ROW && sm_clear(sheet, length, 7) == SM_NO_SUCH_ROW);
         CHECK(sm_enter_times(sheet, length, 0, SM_LAST_FUNCTION + 1, 0.5, 0, 2) == SM_NO_SUCH_FUNCTION);
+        CHECK(sm_enter_times(sheet, length, 0, SM_ELLIPK, 0.5, 0, 2) == SM_WITHDRAWN_FUNCTION);
         only_read(0);
     }
 }
@@ -194,6 +195,7 @@ static void good_sheets(void)
     CHECK(sm_edit(sheet, length, UINT32_MAX, 0, 0, 0, 0, 1) == SM_NO_SUCH_ROW);
     CHECK(sm_edit(sheet, length, 3, SM_LAST_FUNCTION + 1, 0, 0, 0, 1) == SM_NO_SUCH_FUNCTION);
     CHECK(sm_edit(sheet, length, 3, 255, 0, 0, 0, 1) == SM_NO_SUCH_FUNCTION);
+    CHECK(sm_edit(sheet, length, 4, SM_ELLIPK, 0, 0, 0, 1) == SM_NO_SUCH_ROW && sm_edit(sheet, length, 3, SM_ELLIPK, 0, 0, 0, 1) == SM_WITHDRAWN_FUNCTION);
     CHECK(sm_blank(sheet, length, 3) == SM_NOT_A_SHEET);
     CHECK(sm_blank(sheet, length, 1025) == SM_TOO_MANY_ROWS);
     only_read(0);
@@ -299,7 +301,7 @@ static void times_driven(void)
     }
     /* A refused row and an infinite one keep their times and add nothing; a blank row keeps none. */
     CHECK(sm_edit(sheet, length, 1, SM_ELLIPPI, ONE, ONE, 0, 7) == 0 && sm_row_times(sheet, length, 1) == 7 && sm_total(sheet, length) == 0);
-    CHECK(sm_edit(sheet, length, 1, SM_ELLIPK, ONE, 0, 0, 8) == 0 && sm_row_times(sheet, length, 1) == 8 && sm_total(sheet, length) == 0);
+    CHECK(sm_edit(sheet, length, 1, SM_ELLIPKE, ONE, 0, 0, 8) == 0 && sm_row_times(sheet, length, 1) == 8 && sm_total(sheet, length) == 0);
     CHECK(sm_edit(sheet, length, 1, SM_BLANK, ONE, 0, 0, 9) == 0 && memcmp(row, zeros, SM_ROW_BYTES) == 0);
     CHECK(counts_are(sheet, length, 2, 0, 0, 0, 0));
 }
@@ -323,7 +325,7 @@ static void old_sheets(void)
         CHECK(sm_row_class(sheet, length, 1) == 4 && sm_row_at(sheet, length, 1) == 32 + SM_ROW_BYTES && sm_row_refusal(sheet, length, 3) == SM_NO_SUCH_ROW);
         CHECK(sm_sum(sheet, length) == -1.5 && sm_total_refusal(sheet, length) == 0 && sm_count(sheet, length, 4) == 1);
         CHECK(sm_edit(sheet, length, 0, SM_ELLIPK, 0, 0, 0, 1) == SM_NOT_A_SHEET && sm_edit(sheet, length, 3, 255, 0, 0, 0, 1) == SM_NOT_A_SHEET);
-        CHECK(sm_enter_ellipk(sheet, length, 0, 0) == SM_NOT_A_SHEET && sm_clear(sheet, length, 0) == SM_NOT_A_SHEET);
+        CHECK(sm_enter_ellipke(sheet, length, 0, 0) == SM_NOT_A_SHEET && sm_clear(sheet, length, 0) == SM_NOT_A_SHEET);
         only_read(0);
         for (uint32_t i = 0; i < 3; i++)
             sheet[32 + SM_ROW_BYTES * i + SM_ROW_TIMES] = 0x55;
@@ -336,6 +338,39 @@ static void old_sheets(void)
     }
     memcpy(sheet, old, length);
     CHECK(sm_blank(sheet, length, 3) == 0 && u32_at(sheet) == 3);
+}
+
+/* A row of function 1 that was entered before is read, counted, in the total, and replaced or cleared; no new one is entered. */
+static void function_1_goes_out(void)
+{
+    const size_t length = SM_SHEET_BYTES(2);
+    for (int turn = 0; turn < 3; turn++) {
+        uint8_t *sheet = blank(2), stands[SM_SHEET_BYTES(2)];
+        sm_row row;
+        /* As it was entered: F(pi/2, 0) has K(0)'s bits, and K reads one argument. */
+        CHECK(sm_enter_times(sheet, length, 0, SM_ELLIPF, sm_value(0x3ff921fb54442d18), 0, 3) == 0 && sm_enter_ellipeinc(sheet, length, 1, 1.5, 0) == 0);
+        memset(sheet + 32 + SM_ROW_ARGUMENTS, 0, 8);
+        sheet[32] = SM_ELLIPK;
+        memcpy(stands, sheet, length);
+        only_read(1);
+        CHECK(sm_read(sheet, length, 0, &row) == 0 && row.function == SM_ELLIPK && row.times == 3 && sm_pattern(row.answers[0]) == 0x3ff921fb54442d18);
+        CHECK(sm_row_class(sheet, length, 0) == 1 && counts_are(sheet, length, 0, 2, 0, 0, 0) && sm_sum(sheet, length) > 6.2);
+        for (uint32_t i = 0; i < 3; i++)
+            CHECK(sm_edit(sheet, length, i, SM_ELLIPK, ONE, 0, 0, 3) == (i < 2 ? SM_WITHDRAWN_FUNCTION : SM_NO_SUCH_ROW));
+        only_read(0);
+        CHECK(memcmp(sheet, stands, length) == 0);
+        if (turn == 0)
+            CHECK(sm_clear(sheet, length, 0) == 0 && counts_are(sheet, length, 1, 1, 0, 0, 0));
+        if (turn == 1)
+            CHECK(sm_enter_ellipke(sheet, length, 0, 1.0) == 0 && counts_are(sheet, length, 0, 1, 1, 0, 0));
+        if (turn == 2) { /* over damage: 22 goes before 10 */
+            sheet[32 + SM_ROW_REFUSAL] = 200;
+            CHECK(sm_edit(sheet, length, 0, SM_ELLIPK, 0, 0, 0, 1) == SM_WITHDRAWN_FUNCTION && sm_enter_ellipke(sheet, length, 0, 0) == SM_DAMAGED);
+            sheet[32 + SM_ROW_REFUSAL] = 0;
+            CHECK(sm_clear(sheet, length, 0) == 0);
+        }
+        CHECK(sm_sum(sheet, length) == 1.5);
+    }
 }
 
 static void largest_sheet(void)
@@ -368,6 +403,7 @@ int main(void)
     damaged_sheets();
     times_driven();
     old_sheets();
+    function_1_goes_out();
     largest_sheet();
     printf("%u checks, %u failures\n", checks, failures);
     return failures != 0;

@@ -20,13 +20,13 @@ uint8_t wrong(uint8_t *sheet, size_t length)
 #elif WRONG == 7
     return sm_value(x) == 0;
 #elif WRONG == 8
-    return sm_enter_ellipk(sheet, length, 0, x, x);
+    return sm_enter_ellipke(sheet, length, 0, x, x);
 #elif WRONG == 9
     return sm_edit(sheet, length, 0, SM_ELLIPEINC, out[0], out[1], 0); /* without times */
 #else
     out[0] = sm_pattern(x);
     return (uint8_t)(sm_edit(sheet, length, 0, SM_ELLIPEINC, sm_pattern(100000.0), out[1], 0, 1) + sm_evaluate(SM_ELLIPK, out[0], 0, 0, out, 2) +
                      (sm_root(out[0]) == 0) + (sm_fused(0, 0, out[1]) == 0) + (sm_value(out[0]) == 0) + sm_ellipk(x, &x) +
-                     sm_enter_ellipk(sheet, length, 0, x));
+                     sm_enter_ellipke(sheet, length, 0, x));
 #endif
 }

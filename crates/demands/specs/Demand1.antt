@@ -18,7 +18,7 @@ use Rattle.answer.specs.Sound.{Sound}
 use Rattle.answer.specs.laws.Sound.{never-nan, refused-zeros}
 use Rattle.functions.specs.Functions.{evaluateOf}
 use Rattle.functions.specs.laws.Evaluated.{evaluated-sound, beyond}
-use Rattle.ledger.specs.Sheet.{withoutTimes, withTimes, mostRows, sizeFor}
+use Rattle.ledger.specs.Sheet.{withdrawn, withoutTimes, withTimes, mostRows, sizeFor}
 use Rattle.ledger.specs.Calls.{isSheetOf, isSheet, rowsIn, damaged, rungs, blankRefusal, blankOf, rowRefusal, readOf, timesOf, totalRefusal, totalOf}
 use Rattle.ledger.specs.laws.Refusals.{says}
 use Rattle.sheet.specs.declared.Entry.{Entry}
@@ -40,7 +40,7 @@ pub record Demand1 : Type 0 where
   pub zeros : (f a b c : ℕ) → let z = evaluateOf f a b c in 0 < refusalOf z → (firstOf z ≡ +0) × (secondOf z ≡ +0)
   -- the calls' numbers, for any bytes; 0: not refused
   pub blank-numbers : (s : List ℕ) (r : ℕ) → OneOf (blankRefusal s r) (0 ∷ 11 ∷ 7 ∷ [])
-  pub edit-numbers : (s : List ℕ) (i f : ℕ) → OneOf (editRefusal s i f) (0 ∷ 7 ∷ 8 ∷ 9 ∷ 10 ∷ [])
+  pub edit-numbers : (s : List ℕ) (i f : ℕ) → OneOf (editRefusal s i f) (0 ∷ 7 ∷ 8 ∷ 22 ∷ 9 ∷ 10 ∷ [])
   pub row-numbers : (s : List ℕ) (i : ℕ) → OneOf (rowRefusal s i) (0 ∷ 7 ∷ 8 ∷ [])
   pub total-numbers : (s : List ℕ) → OneOf (totalRefusal s) (0 ∷ 7 ∷ [])
   -- a refused call changes no byte
@@ -71,16 +71,17 @@ blank-of s r = go (ltb mostRows r) (eqb (length s) (sizeFor r))
     go false false = there (there here)
     go false true = here
 
-edit-of : (s : List ℕ) (i f : ℕ) → OneOf (editRefusal s i f) (0 ∷ 7 ∷ 8 ∷ 9 ∷ 10 ∷ [])
+edit-of : (s : List ℕ) (i f : ℕ) → OneOf (editRefusal s i f) (0 ∷ 7 ∷ 8 ∷ 22 ∷ 9 ∷ 10 ∷ [])
 unfolding editRefusal rungs
-edit-of s i f = go (isSheetOf withTimes s) (leb (rowsIn s) i) (ltb last f) (damaged s i)
+edit-of s i f = go (isSheetOf withTimes s) (leb (rowsIn s) i) (eqb f withdrawn) (ltb last f) (damaged s i)
   where
-    go : (p q r t : Bool) → OneOf (cond (not p) 7 (cond q 8 (cond r 9 (cond t 10 0)))) (0 ∷ 7 ∷ 8 ∷ 9 ∷ 10 ∷ [])
-    go false q r t = there here
-    go true true r t = there (there here)
-    go true false true t = there (there (there here))
-    go true false false true = there (there (there (there here)))
-    go true false false false = here
+    go : (p q o r t : Bool) → OneOf (cond (not p) 7 (cond q 8 (cond o 22 (cond r 9 (cond t 10 0))))) (0 ∷ 7 ∷ 8 ∷ 22 ∷ 9 ∷ 10 ∷ [])
+    go false q o r t = there here
+    go true true o r t = there (there here)
+    go true false true r t = there (there (there here))
+    go true false false true t = there (there (there (there here)))
+    go true false false false true = there (there (there (there (there here))))
+    go true false false false false = here
 
 row-of : (s : List ℕ) (i : ℕ) → OneOf (rowRefusal s i) (0 ∷ 7 ∷ 8 ∷ [])
 unfolding rowRefusal

@@ -33,7 +33,7 @@ run s (e ∷ es) = run (after s e) es
 
 -- ---- what they should come to
 
--- the answer in a sheet of r rows: 8, 9, or accepted
+-- the answer in a sheet of r rows: 8, 22, 9, or accepted
 abbrev pub answerIn : ℕ → Edit → ℕ
 answerIn r e = rungs r (e .row) (e .entry .function) 0
 
@@ -64,7 +64,7 @@ fresh ws es = freshFrom (length ws) 0 ws es
 abbrev pub blanks : ℕ → List Row
 blanks r = replicate r blankRow
 
--- a row that some entry of a known function gives
+-- a row that some entry of a known function gives, function 1 too: such rows were entered before it went out (02, [13])
 pub record Worked (w : Row) : Type 0 where
   pub entry : Entry
   pub known : entry .function ≤ last

@@ -3,14 +3,14 @@ use mathlib.Core.Path.{_≡_, refl, ap}
 use mathlib.Core.Bool.{Bool, true, false, cond, not, _||_, false≢true}
 use mathlib.Core.List.{List}
 use Prim.Native.Nat.{ℕ, _≤_, _<_}
-use borrow.Author.Tests.{eq-eqb, ne-eqb, le-leb, lt-leb, lt-ltb, le-ltb}
-use lib.Dec.{leb, eqb}
+use borrow.Author.Tests.{eq-eqb, ne-eqb, le-leb, lt-leb, le-ltb}
+use lib.Dec.{leb, ltb, eqb}
 use lib.ListN.{length, take, getD}
 use Rattle.answer.specs.Numbers.{last}
 use Rattle.ledger.specs.Bytes.{number, read}
-use Rattle.ledger.specs.Sheet.{Row, withoutTimes, withTimes, mostRows, sizeFor, entries, functionIn, classOf, sound}
-use Rattle.ledger.specs.Calls.{Sized, rowsIn, rowIn, countsIn, equal, isSheetOf, isSheet, plus, miscounted, damaged, rowRungs, rungs, totalRefusal, placeRefusal}
-use Rattle.ledger.specs.laws.Refusals.{says}
+use Rattle.ledger.specs.Sheet.{Row, withdrawn, withoutTimes, withTimes, mostRows, sizeFor, entries, functionIn, classOf, sound}
+use Rattle.ledger.specs.Calls.{Sized, rowsIn, rowIn, countsIn, equal, isSheetOf, isSheet, plus, miscounted, damaged, rowRungs, functionRungs, rungs, totalRefusal, placeRefusal}
+use Rattle.ledger.specs.laws.Refusals.{says, past-function}
 
 -- ---- a sheet that says k
 module _ (k : ℕ) (s : List ℕ) where
@@ -92,19 +92,27 @@ module _ (s : List ℕ) (i : ℕ) (w : Row) where
       go false q rest h = refl
 
   module _ (h : isSheetOf withTimes s ≡ true) (g : i < rowsIn s) where
-    pub place-9 : last < functionIn w → 9 ≡ placeRefusal s i w
+    pub place-function : let q = functionRungs (functionIn w) 0 in (q ≡ 0 → ⊥) → q ≡ placeRefusal s i w
     unfolding placeRefusal rungs
-    place-9 k = rw (h, lt-leb _ _ g, lt-ltb _ _ k)
+    place-function k = rw (h, lt-leb _ _ g) (go (eqb (functionIn w) withdrawn) (ltb last (functionIn w)) _ k)
+      where
+        go : (p q : Bool) (rest : ℕ) → (_≡_ {A = ℕ} (cond p 22 (cond q 9 0)) 0 → ⊥) → _≡_ {A = ℕ} (cond p 22 (cond q 9 0)) (cond p 22 (cond q 9 rest))
+        go true q rest e = refl
+        go false true rest e = refl
+        go false false rest e = absurd (e refl)
 
-    module _ (k : functionIn w ≤ last) where
+    module _ (z : functionRungs (functionIn w) 0 ≡ 0) where
+      may : (eqb (functionIn w) withdrawn ≡ false) × (functionIn w ≤ last) × (_≡_ {A = ℕ} 0 0)
+      may = past-function (functionIn w) 0 z
+
       pub place-new : sound w ≡ false → 10 ≡ placeRefusal s i w
       unfolding placeRefusal rungs
-      place-new d = rw (h, lt-leb _ _ g, le-ltb _ _ k, d)
+      place-new d = rw (h, lt-leb _ _ g, may .0, le-ltb _ _ (may .1), d)
 
       pub place-old : sound w ≡ true → damaged s i ≡ true → 10 ≡ placeRefusal s i w
       unfolding placeRefusal rungs
-      place-old d e = rw (h, lt-leb _ _ g, le-ltb _ _ k, d, e)
+      place-old d e = rw (h, lt-leb _ _ g, may .0, le-ltb _ _ (may .1), d, e)
 
       pub place-0 : sound w ≡ true → damaged s i ≡ false → 0 ≡ placeRefusal s i w
       unfolding placeRefusal rungs
-      place-0 d e = rw (h, lt-leb _ _ g, le-ltb _ _ k, d, e)
+      place-0 d e = rw (h, lt-leb _ _ g, may .0, le-ltb _ _ (may .1), d, e)

@@ -11,7 +11,7 @@ use Rattle.laws.specs.Ladder.{when_gives_else_}
 use Rattle.answer.specs.Numbers.{last}
 use Rattle.total.specs.Total.{roundTotal}
 use Rattle.ledger.specs.Bytes.{number, read, splice}
-use Rattle.ledger.specs.Sheet.{Row, withoutTimes, withTimes, entries, sizeFor, mostRows, rowPlace, blankRow, functionIn, timesIn, noClass, classOf, valueOf, sound, retotal, totals, encode}
+use Rattle.ledger.specs.Sheet.{Row, withdrawn, withoutTimes, withTimes, entries, sizeFor, mostRows, rowPlace, blankRow, functionIn, timesIn, noClass, classOf, valueOf, sound, retotal, totals, encode}
 
 -- ---- what stands in bytes that may be a sheet
 
@@ -63,12 +63,18 @@ miscounted s i = not (eqb (plus (countsIn s)) (rowsIn s)) || eqb (getD (countsIn
 unfoldable pub damaged : List ℕ → ℕ → Bool
 damaged s i = not (sound (rowIn s i)) || miscounted s i
 
--- "Order for an edit: 7, 8, 9, 10.": what stands between 7 and the rest, for row i of r and a new row's function f
+-- a new row's function: 22 for the one that goes out, 9 for a number that is no function's
+abbrev pub functionRungs : ℕ → ℕ → ℕ
+functionRungs f rest =
+    when eqb f withdrawn gives 22 else
+    when ltb last f gives 9 else
+    rest
+
+-- "Order for an edit: 7, 8, 9, 10.", and 22 after 8 (02, [13]): what stands between 7 and the rest, for row i of r and a new row's function f
 unfoldable pub rungs : ℕ → ℕ → ℕ → ℕ → ℕ
 rungs r i f rest =
     when leb r i gives 8 else
-    when ltb last f gives 9 else
-    rest
+    functionRungs f rest
 
 -- "The total: 7."
 unfoldable pub totalRefusal : List ℕ → ℕ

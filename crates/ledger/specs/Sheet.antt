@@ -48,6 +48,10 @@ Row = List ℕ
 unfoldable pub rowBytes : ℕ → ℕ → ℕ → List ℕ → Row
 rowBytes f q k xs = (f ∷ q ∷ bytes 2 k) ++ (replicate 4 0 ++ fields 8 xs)
 
+-- function 1 goes out (02, [13]): no new row has it; rows of it that stand are read, counted, totalled, replaced and cleared as any other
+abbrev pub withdrawn : ℕ
+withdrawn = 1
+
 -- a row of function 0
 abbrev pub blankRow : Row
 blankRow = replicate 48 0

@@ -17,8 +17,8 @@ ghost use mathlib.Core.Bool.{true};
 ghost use Prim.Native.Nat.{_+_, _*_, _≤_, _<_};
 ghost use lib.ListN.{length};
 ghost use Rattle.ledger.specs.Bytes.{read, fields};
-ghost use Rattle.ledger.specs.Sheet.{withTimes, mostRows, entries, sound};
-ghost use Rattle.ledger.specs.Calls.{Sized, rowsIn, rowIn, equal, isSheetOf, isSheet, miscounted, damaged, rowRungs, rowRefusal, placeRefusal};
+ghost use Rattle.ledger.specs.Sheet.{withTimes, mostRows, entries, functionIn, sound};
+ghost use Rattle.ledger.specs.Calls.{Sized, rowsIn, rowIn, equal, isSheetOf, isSheet, miscounted, damaged, rowRungs, functionRungs, rowRefusal, placeRefusal};
 
 // Kind, place, length and how many, of the rows and of the totals. The rows' kind is 3 where they keep times, 1 where they do not.
 pub(crate) fn contents(kind: u32, rows: u32) -> [u32; 8]
@@ -117,6 +117,23 @@ pub(crate) fn refusal_of_row(s: &[u8], row: u32) -> u8
     refusal_in(s, row, is_sheet(s))
 }
 
+// The function that goes out: rows of it stand, and no new one is put in (02, [13]).
+const WITHDRAWN: u8 = 1;
+
+// What refuses a new row's function, or 0.
+fn refusal_of_function(words: [u64; 6]) -> u8
+    ensures { λ r. ⌜ r ≡ functionRungs (functionIn (fields 8 words)) 0 ⌝ }
+{
+    let function = function_of(words);
+    if function == WITHDRAWN {
+        return 22;
+    }
+    if function > LAST {
+        return 9;
+    }
+    0
+}
+
 // A sheet without times is only read.
 pub(crate) fn refusal_of_place(s: &[u8], row: u32, words: [u64; 6]) -> u8
     ensures { λ r. ⌜ r ≡ placeRefusal (now (s .entry)) row (fields 8 words) ⌝ }
@@ -125,8 +142,9 @@ pub(crate) fn refusal_of_place(s: &[u8], row: u32, words: [u64; 6]) -> u8
     if refusal != 0 {
         return refusal;
     }
-    if function_of(words) > LAST {
-        return 9;
+    let unfit = refusal_of_function(words);
+    if unfit != 0 {
+        return unfit;
     }
     if !words_sound(words) {
         return 10;

@@ -97,7 +97,7 @@ fn store(sheet: &mut [u8], row: u32, words: [u64; 6])
     revise(sheet, old, new);
 }
 
-// A row of these words in place of another: 7 (no sheet, or one without times), 8, 9 (their function), 10 (the old row or the counts damaged, or the new row not one that an edit stores), or 0, stored.
+// A row of these words in place of another: 7 (no sheet, or one without times), 8, 22 and 9 (their function), 10 (the old row or the counts damaged, or the new row not one that an edit stores), or 0, stored.
 pub fn place(sheet: &mut [u8], row: u32, words: [u64; 6]) -> u8
     ensures { λ r. ⌜ (r ≡ placeRefusal (now (sheet .entry)) row (fields 8 words)) × (now (sheet .exit) ≡ placeOf (now (sheet .entry)) row (fields 8 words)) ⌝ }
 {

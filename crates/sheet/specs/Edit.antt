@@ -52,7 +52,7 @@ rowOf e =
 
 -- ---- the call
 
--- "Order for an edit: 7, 8, 9, 10."; 7 also for a sheet without times, which is only read
+-- "Order for an edit: 7, 8, 9, 10.", with 22 after 8; 7 also for a sheet without times, which is only read
 unfoldable pub editRefusal : List ℕ → ℕ → ℕ → ℕ
 editRefusal s i f =
     when not (isSheetOf withTimes s) gives 7 else

@@ -15,7 +15,7 @@ pub struct Entry {
     pub times: u16,
 }
 
-// An entry worked out in a row: 7, 8, 9 or 10, or 0, stored.
+// An entry worked out in a row: 7, 8, 22, 9 or 10, or 0, stored.
 pub fn edit(sheet: &mut [u8], row: u32, entry: Entry) -> u8
     ensures { λ r. ⌜ (r ≡ editRefusal (now (sheet .entry)) row (entry .function)) × (now (sheet .exit) ≡ editOf (now (sheet .entry)) row entry) ⌝ }
 {

@@ -24,6 +24,7 @@ class Refusal(IntEnum):
     DAMAGED = 10
     TOO_MANY_ROWS = 11
     OUTSIDE_THE_KERNEL = 12
+    WITHDRAWN_FUNCTION = 22
 
 
 # The words are those of the Rust crate, faces/rust/src/refusal.rs; the tests compare them.
@@ -40,6 +41,7 @@ _WORDS = {
     10: "the row or the counts are damaged; fetch the sheet again, or edit every row afresh in a blank one",
     11: "a sheet has at most 1,024 rows; spread the rows over more sheets",
     12: "a logarithm, sine or cosine was asked outside its range; report the arguments that led to it",
+    22: "ellipk goes out, and no sheet takes a new row of it; enter ellipke, whose first answer is K(m) too",
 }
 _UNKNOWN = "no refusal has this number; the bytes that it was read from are damaged, so fetch them again"
 

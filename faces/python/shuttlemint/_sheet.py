@@ -159,7 +159,8 @@ class Sheet:
         """Works the function out, puts it in the row in place of what stands there, and gives the row. The counts and the total follow.
 
         The function goes by number or by name. `times` is how often the leg was driven, 0 to 65535. Refusals: 7 for a sheet that does not keep times, 8 for no
-        such row, 9 for no such function, 10 for damage. A refusal of the function itself, 1 to 6, is no refusal of the edit: the row keeps it.
+        such row, 22 for function 1, `ellipk`, which goes out, 9 for no such function, 10 for damage. A refusal of the function itself, 1 to 6, is no refusal of
+        the edit: the row keeps it.
 
         >>> sheet = Sheet(1)
         >>> sheet.edit(0, "ellipke", 1.0).answers
@@ -168,10 +169,14 @@ class Sheet:
         2
         >>> sheet.edit(0, "ellipeinc", 1.5, 0.0, times=3).times, sheet.total()
         (3, 4.5)
-        >>> sheet.edit(1, "ellipk", 0.5)
+        >>> sheet.edit(1, "ellipke", 0.5)
         Traceback (most recent call last):
             ...
         shuttlemint.Refused: Sheet.edit of row 1: refusal 8: there is no such row; rows are counted from 0 and stay below the sheet's row count
+        >>> sheet.edit(0, "ellipk", 0.5)
+        Traceback (most recent call last):
+            ...
+        shuttlemint.Refused: Sheet.edit of row 0: refusal 22: ellipk goes out, and no sheet takes a new row of it; enter ellipke, whose first answer is K(m) too
         """
         number = self._number(function)
         if number < len(FUNCTIONS):

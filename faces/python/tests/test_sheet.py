@@ -129,7 +129,7 @@ class Model(unittest.TestCase):
         """Demand 3: any edits in any order give the bytes of the last one of each row."""
         rng = random.Random(3)
         for rows in (1, 7, 40):
-            edits = [(rng.randrange(rows), rng.randrange(7), any_pattern(rng), any_pattern(rng), any_pattern(rng), rng.randrange(1 << 16)) for _ in range(4 * rows)]
+            edits = [(rng.randrange(rows), rng.choice([0, 2, 3, 4, 5, 6]), any_pattern(rng), any_pattern(rng), any_pattern(rng), rng.randrange(1 << 16)) for _ in range(4 * rows)]
             sheet, last = Sheet(rows), {}
             for edit in edits:
                 sheet.edit_patterns(*edit)
@@ -146,23 +146,27 @@ class Model(unittest.TestCase):
 
 
 class Refusals(unittest.TestCase):
-    def test_7_to_11(self):
+    def test_7_to_11_and_22(self):
         sheet = Sheet(2)
         before = sheet.to_bytes()
         self.assertEqual(refusal_of(Sheet.from_bytes, before[1:]), Refusal.NOT_A_SHEET)
         for row in (2, 1 << 31, (1 << 32) - 1, 1 << 32, (1 << 32) + 1, -1):
+            self.assertEqual(refusal_of(sheet.edit, row, 3, 0.5), Refusal.NO_SUCH_ROW)
             self.assertEqual(refusal_of(sheet.edit, row, 1, 0.5), Refusal.NO_SUCH_ROW)
             self.assertEqual(refusal_of(sheet.row, row), Refusal.NO_SUCH_ROW)
             self.assertEqual(refusal_of(sheet.clear, row), Refusal.NO_SUCH_ROW)
         for function in (7, 255, 256, 257, -1):
             self.assertEqual(refusal_of(sheet.edit, 0, function), Refusal.NO_SUCH_FUNCTION)
+        for function in (1, "ellipk"):
+            self.assertEqual(refusal_of(sheet.edit, 0, function, 0.5), Refusal.WITHDRAWN_FUNCTION)
         for rows in (1025, 1 << 32, (1 << 32) + 1, -1):
             self.assertEqual(refusal_of(Sheet, rows), Refusal.TOO_MANY_ROWS)
         self.assertEqual(sheet.to_bytes(), before)
         self.assertEqual(len(Sheet(1024)), 1024)
         damaged = Sheet.from_bytes(before[:32] + b"\x09" + before[33:])
         before = damaged.to_bytes()
-        self.assertEqual(refusal_of(damaged.edit, 0, 1, 0.5), Refusal.DAMAGED)
+        self.assertEqual(refusal_of(damaged.edit, 0, 3, 0.5), Refusal.DAMAGED)
+        self.assertEqual(refusal_of(damaged.edit, 0, 1, 0.5), Refusal.WITHDRAWN_FUNCTION)
         self.assertEqual(refusal_of(damaged.clear, 0), Refusal.DAMAGED)
         self.assertEqual(damaged.to_bytes(), before)
         self.assertEqual((damaged.row(0).name, damaged.row(0).class_), ("function 9", Class.FINITE))
@@ -191,14 +195,34 @@ class Refusals(unittest.TestCase):
             data[34] = data[35] = data[82] = data[130] = anything
             old = Sheet.from_bytes(data)
             self.assertEqual((old.keeps_times, [row.times for row in old], old.total(), old.counts()), (False, [1, 1, 0], -1.5, Counts(1, 1, 0, 0, 1)))
-            for call in ((old.edit, 0, "ellipk", 0.5), (old.edit, 9, 200), (old.edit_patterns, 0, 1), (old.clear, 0), (old.clear, 9)):
+            for call in ((old.edit, 0, "ellipke", 0.5), (old.edit, 9, 200), (old.edit_patterns, 0, 1), (old.clear, 0), (old.clear, 9)):
                 self.assertEqual(refusal_of(*call), Refusal.NOT_A_SHEET)
             self.assertEqual(old.to_bytes(), data)
         with self.assertRaisesRegex(Refused, "Sheet.edit of row 0: refusal 7: .* an old one without times, which is only read"):
-            old.edit(0, "ellipk", 0.5)
+            old.edit(0, "ellipke", 0.5)
         for says in set(range(256)) - {1, 3}:
             data[0] = says
             self.assertEqual(refusal_of(Sheet.from_bytes, data), Refusal.NOT_A_SHEET)
+
+    def test_a_row_of_function_1_stands(self):
+        """It was entered before the function went out: F(π/2, 0) has K(0)'s bits, and K reads one argument."""
+        sheet = Sheet(2)
+        sheet.edit(0, "ellipf", value(0x3FF921FB54442D18), 0.0, times=3)
+        sheet.edit(1, "ellipe", 1.0)
+        data = bytearray(sheet.to_bytes())
+        data[32], data[40:48] = 1, bytes(8)
+        stands = Sheet.from_bytes(data)
+        row = stands.row(0)
+        self.assertEqual((row.name, row.times, row.answers[0], stands.counts()), ("ellipk", 3, value(0x3FF921FB54442D18), Counts(0, 2, 0, 0, 0)))
+        self.assertEqual((refusal_of(stands.edit, 0, 1, 0.0), refusal_of(stands.edit, 1, "ellipk", 0.0), refusal_of(stands.edit, 2, 1, 0.0)), (22, 22, 8))
+        self.assertEqual(stands.to_bytes(), data)
+        stands.edit(1, "blank")
+        self.assertEqual(stands.exact_total(), 3 * Fraction(row.answers[0]))
+        stands.edit(0, "ellipke", 1.0)
+        self.assertEqual((stands.row(0).class_, stands.exact_total()), (Class.PLUS_INFINITY, 0))
+        again = Sheet.from_bytes(data)
+        again.clear(0)
+        self.assertEqual(again.total(), 1.0)
 
     def test_damaged_rows_are_shown(self):
         data = bytearray(Sheet(1).to_bytes())
@@ -218,9 +242,9 @@ class Refusals(unittest.TestCase):
         with self.assertRaisesRegex(ValueError, "no function has the name 'ellipj'; there are blank, ellipk"):
             sheet.edit(0, "ellipj", 1.0)
         with self.assertRaisesRegex(TypeError, "must be real numbers"):
-            sheet.edit(0, "ellipk", "0.5")
+            sheet.edit(0, "ellipke", "0.5")
         with self.assertRaises(TypeError):
-            sheet.edit(0.0, "ellipk", 0.5)
+            sheet.edit(0.0, "ellipke", 0.5)
         self.assertEqual(sheet, Sheet(1))
 
 
@@ -249,13 +273,13 @@ class Calls(unittest.TestCase):
             self.assertEqual((row.times, row.class_, sheet.total()), (times, Class.FINITE, -1.5 * times))
             self.assertEqual(sheet.to_bytes()[34:40], struct.pack("<HI", times, 0))
         self.assertEqual(sheet.edit(0, "ellipeinc", -1.5, 0.0).times, 1)
-        self.assertEqual((sheet.edit(0, "ellippi", 1.0, 0.5, times=7).times, sheet.edit(1, "ellipk", 1.0, times=8).times, sheet.total()), (7, 8, 0.0))
+        self.assertEqual((sheet.edit(0, "ellippi", 1.0, 0.5, times=7).times, sheet.edit(1, "ellipke", 1.0, times=8).times, sheet.total()), (7, 8, 0.0))
         self.assertEqual((sheet.edit(0, "blank", times=9).times, sheet.edit(1, 0, times=9).times, sheet), (0, 0, Sheet(2)))
         for times in (65536, 1 << 16 | 1, 1 << 64, -1):
             with self.assertRaisesRegex(ValueError, "give 0 to 65535"):
-                sheet.edit(0, "ellipk", 0.5, times=times)
+                sheet.edit(0, "ellipke", 0.5, times=times)
         with self.assertRaises(TypeError):
-            sheet.edit(0, "ellipk", 0.5, times=2.0)
+            sheet.edit(0, "ellipke", 0.5, times=2.0)
         self.assertEqual(sheet, Sheet(2))
 
     def test_names_numbers_and_patterns_are_one(self):
@@ -267,12 +291,12 @@ class Calls(unittest.TestCase):
         self.assertEqual([sheet.to_bytes() for sheet in sheets], [sheets[0].to_bytes()] * 4)
 
     def test_a_nan_goes_in_as_it_is(self):
-        row = Sheet(1).edit_patterns(0, 1, SIGN + PLUS + 5)
+        row = Sheet(1).edit_patterns(0, 3, SIGN + PLUS + 5)
         self.assertEqual((row.patterns[0], row.refusal, row.class_), (SIGN + PLUS + 5, 1, Class.REFUSED))
 
     def test_clearing_restores_the_bytes(self):
         sheet = Sheet(3)
-        sheet.edit(1, "ellipk", 0.5)
+        sheet.edit(1, "ellipke", 0.5)
         self.assertNotEqual(sheet, Sheet(3))
         sheet.clear(1)
         self.assertEqual(sheet, Sheet(3))
@@ -282,7 +306,7 @@ class Calls(unittest.TestCase):
         source = bytearray(sheet.to_bytes())
         others = [Sheet.from_bytes(source), copy.copy(sheet), copy.deepcopy(sheet), pickle.loads(pickle.dumps(sheet))]
         source[0] = 9
-        sheet.edit(0, "ellipk", 0.5)
+        sheet.edit(0, "ellipke", 0.5)
         for other in others:
             self.assertEqual(other, Sheet(1))
         self.assertNotEqual(sheet, "a sheet")

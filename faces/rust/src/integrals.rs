@@ -34,7 +34,7 @@ impl Integral {
         Integral { function, arguments: [a.to_bits(), b.to_bits(), 0] }
     }
 
-    /// K(m).
+    /// K(m). To be worked out: no sheet takes a new row of it (22), where [`ellipke`](Integral::ellipke) has K(m) for its first answer.
     pub fn ellipk(m: impl Into<Parameter>) -> Integral {
         Integral::new(1, m.into().0, 0.0)
     }

@@ -77,7 +77,7 @@ pub use sorts::{Amplitude, Characteristic, Parameter};
 /// | 6 | [`ellipf`](integrals::ellipf) | φ, m | F |
 ///
 /// Arguments that the function does not have are not read, and answers that it does not have are 0. No answer is NaN. Refusals: 1 to
-/// 6, and 9 for a number above the last.
+/// 6, and 9 for a number above the last. Function 1 goes out of sheets ([`Sheet::edit`]), and is worked out here as ever.
 ///
 /// ```
 /// use shuttlemint::{evaluate, Refusal};

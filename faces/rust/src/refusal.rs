@@ -41,6 +41,8 @@ impl Refusal {
     pub const TOO_MANY_ROWS: Refusal = Refusal::numbered(11);
     /// 12: a logarithm, sine or cosine outside the range where it is worked out. No call of this crate gives it.
     pub const OUTSIDE_THE_KERNEL: Refusal = Refusal::numbered(12);
+    /// 22: an edit to function 1, `ellipk`, which goes out: rows of it stand, and no new one is entered.
+    pub const WITHDRAWN_FUNCTION: Refusal = Refusal::numbered(22);
 
     const fn numbered(number: u8) -> Refusal {
         match NonZeroU8::new(number) {
@@ -77,6 +79,7 @@ impl Refusal {
             10 => "the row or the counts are damaged; fetch the sheet again, or edit every row afresh in a blank one",
             11 => "a sheet has at most 1,024 rows; spread the rows over more sheets",
             12 => "a logarithm, sine or cosine was asked outside its range; report the arguments that led to it",
+            22 => "ellipk goes out, and no sheet takes a new row of it; enter ellipke, whose first answer is K(m) too",
             _ => "no refusal has this number; the bytes that it was read from are damaged, so fetch them again",
         }
     }

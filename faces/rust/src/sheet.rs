@@ -147,8 +147,8 @@ impl<B: AsRef<[u8]> + AsMut<[u8]>> Sheet<B> {
     /// ```
     /// # use shuttlemint::{Refusal, Sheet};
     /// let mut lent = [0u8; 376];
-    /// Sheet::blank_in(&mut lent[..], 1)?.edit(0, 1, 0, 0, 0, 1)?;
-    /// assert_eq!(lent[32], 1);
+    /// Sheet::blank_in(&mut lent[..], 1)?.edit(0, 3, 0, 0, 0, 1)?;
+    /// assert_eq!(lent[32], 3);
     /// # Ok::<(), Refusal>(())
     /// ```
     pub fn blank_in(mut bytes: B, rows: u32) -> Result<Sheet<B>, Refusal> {
@@ -157,8 +157,16 @@ impl<B: AsRef<[u8]> + AsMut<[u8]>> Sheet<B> {
     }
 
     /// Works out the integral and puts it in the row, in place of what stands there, as a leg that was driven once. Refusals, each changing no byte: 7 for a
-    /// sheet that does not [keep times](Sheet::keeps_times), 8 for no such row, 10 for a damaged row or damaged counts. A refusal of the integral itself, 1 to 6,
-    /// is not among them: the row keeps it.
+    /// sheet that does not [keep times](Sheet::keeps_times), 8 for no such row, 22 for [`ellipk`](Integral::ellipk), which goes out, 10 for a damaged row or
+    /// damaged counts. A refusal of the integral itself, 1 to 6, is not among them: the row keeps it.
+    ///
+    /// ```
+    /// # use shuttlemint::{Integral, Refusal, Sheet};
+    /// let mut sheet = Sheet::blank(1)?;
+    /// assert_eq!(sheet.enter(0, Integral::ellipk(0.5)), Err(Refusal::WITHDRAWN_FUNCTION));
+    /// sheet.enter(0, Integral::ellipke(0.5))?;
+    /// # Ok::<(), Refusal>(())
+    /// ```
     pub fn enter(&mut self, row: u32, integral: Integral) -> Result<(), Refusal> {
         self.enter_times(row, integral, 1)
     }
@@ -182,8 +190,8 @@ impl<B: AsRef<[u8]> + AsMut<[u8]>> Sheet<B> {
 
     /// [`enter_times`](Sheet::enter_times) by number and bit patterns: works out the function of this number at its arguments' bit patterns and puts it in the row, in place of what
     /// stands there. Arguments that the function does not have are stored as 0, and so are the times of a blank row. Refusals, in this order, each changing no byte: 7 for a sheet that
-    /// does not [keep times](Sheet::keeps_times), 8 for no such row, 9 for no such function, 10 for a damaged row or damaged counts. A refusal of the function itself, 1 to 6, is not
-    /// among them: the row keeps it.
+    /// does not [keep times](Sheet::keeps_times), 8 for no such row, 22 for function 1, 9 for no such function, 10 for a damaged row or damaged counts. A refusal of the function itself,
+    /// 1 to 6, is not among them: the row keeps it. A row of function 1 that stands, entered before it went out, is read, replaced and cleared as any other.
     pub fn edit(&mut self, row: u32, function: u8, a: u64, b: u64, c: u64, times: u16) -> Result<(), Refusal> {
         accepted(face::edit(self.bytes.as_mut(), row, function, [a, b, c], times))
     }

@@ -14,7 +14,7 @@ use Rattle.total.specs.Total.{N}
 use Rattle.total.specs.laws.Limbs.{N-pos}
 use Rattle.ledger.specs.Bytes.{bytes, number, fields, read, splice}
 use Rattle.ledger.specs.Sheet.{Row, withTimes, withoutTimes, rowPlace, sizeFor, entries, classOf, totals, count, counts, sum, flat, encode}
-use Rattle.ledger.specs.Calls.{rowsIn, rowIn, countsIn, totalIn, equal, isSheetOf, isSheet, miscounted, damaged, rungs, totalRefusal, revised, edited}
+use Rattle.ledger.specs.Calls.{rowsIn, rowIn, countsIn, totalIn, equal, isSheetOf, isSheet, miscounted, damaged, functionRungs, rungs, totalRefusal, revised, edited}
 use Rattle.sheet.specs.Edit.{editRefusal}
 use Rattle.ledger.specs.laws.Fields.{take-past, drop-past, length-bytes, length-fields, number-bytes, read-fields, fields-append}
 use Rattle.ledger.specs.laws.Refusals.{rows-of, class-lt, length-totals}
@@ -134,7 +134,7 @@ module _ (ws : List Row) (r : Rows ws) (few : length ws ≤ 1024) where
   answers e = rw (takes-edits, rows-in) (go (leb (length ws) (e .row)) refl)
     where
       go : (b : Bool) → leb (length ws) (e .row) ≡ b
-          → _≡_ {A = ℕ} (cond b 8 (cond (ltb last (e .entry .function)) 9 (cond (damaged (encode ws) (e .row)) 10 0))) (cond b 8 (cond (ltb last (e .entry .function)) 9 0))
+          → _≡_ {A = ℕ} (cond b 8 (functionRungs (e .entry .function) (cond (damaged (encode ws) (e .row)) 10 0))) (cond b 8 (functionRungs (e .entry .function) 0))
       go true h = refl
       go false h = rw (whole (e .row) (leb-false (length ws) (e .row) h))
 

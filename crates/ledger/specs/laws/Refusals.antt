@@ -12,8 +12,8 @@ use lib.Ieee.{Float, nan, inf, fin, isNan}
 use Rattle.answer.specs.Numbers.{last, stored}
 use Rattle.ledger.specs.Bytes.{number, read}
 use Rattle.ledger.specs.laws.Fields.{length-read, length-bytes, length-fields}
-use Rattle.ledger.specs.Sheet.{Row, withoutTimes, withTimes, mostRows, rowPlace, sizeFor, entries, functionIn, refusalIn, firstIn, soundOf, sound, kindOf, classOf, totals}
-use Rattle.ledger.specs.Calls.{Sized, rowsIn, rowIn, countsIn, equal, isSheetOf, isSheet, plus, miscounted, damaged, rowRungs, rungs, recount, rowRefusal, placeRefusal, blankRefusal}
+use Rattle.ledger.specs.Sheet.{Row, withdrawn, withoutTimes, withTimes, mostRows, rowPlace, sizeFor, entries, functionIn, refusalIn, firstIn, soundOf, sound, kindOf, classOf, totals}
+use Rattle.ledger.specs.Calls.{Sized, rowsIn, rowIn, countsIn, equal, isSheetOf, isSheet, plus, miscounted, damaged, rowRungs, functionRungs, rungs, recount, rowRefusal, placeRefusal, blankRefusal}
 
 -- ---- tests joined
 and-3 : (a b c : Bool) → (a && (b && c)) ≡ true → (a ≡ true) × (b ≡ true) × (c ≡ true)
@@ -129,19 +129,26 @@ pub past-10 : (b : Bool) → _≡_ {A = ℕ} (cond b 10 0) 0 → b ≡ false
 past-10 true h = absurd (omega arith)
 past-10 false h = refl
 
-pub past-rungs : (r i f rest : ℕ) → rungs r i f rest ≡ 0 → (i < r) × (f ≤ last) × (rest ≡ 0)
-unfolding rungs
-past-rungs r i f rest h = go (leb r i) (ltb last f) refl refl h
+pub past-function : (f rest : ℕ) → functionRungs f rest ≡ 0 → (eqb f withdrawn ≡ false) × (f ≤ last) × (rest ≡ 0)
+past-function f rest h = go (eqb f withdrawn) (ltb last f) refl refl h
   where
-    go : (p q : Bool) → leb r i ≡ p → ltb last f ≡ q → cond p 8 (cond q 9 rest) ≡ 0 → (i < r) × (f ≤ last) × (rest ≡ 0)
+    go : (p q : Bool) → eqb f withdrawn ≡ p → ltb last f ≡ q → cond p 22 (cond q 9 rest) ≡ 0 → (eqb f withdrawn ≡ false) × (f ≤ last) × (rest ≡ 0)
     go true q x y z = absurd (omega arith)
     go false true x y z = absurd (omega arith)
-    go false false x y z = (leb-false _ _ x, ltb-false _ _ y, z)
+    go false false x y z = (x, ltb-false _ _ y, z)
+
+pub past-rungs : (r i f rest : ℕ) → rungs r i f rest ≡ 0 → (i < r) × (f ≤ last) × (rest ≡ 0)
+unfolding rungs
+past-rungs r i f rest h = go (leb r i) refl h
+  where
+    go : (p : Bool) → leb r i ≡ p → cond p 8 (functionRungs f rest) ≡ 0 → (i < r) × (f ≤ last) × (rest ≡ 0)
+    go true x z = absurd (omega arith)
+    go false x z = let t = past-function f rest z in (leb-false _ _ x, t .1, t .2)
 
 -- what comes after them matters only where they pass
 pub rungs-same : (r i f x y : ℕ) → (f ≤ last → x ≡ y) → rungs r i f x ≡ rungs r i f y
 unfolding rungs
-rungs-same r i f x y h = ap (λ (k : ℕ). cond (leb r i) 8 k) (go (ltb last f) refl)
+rungs-same r i f x y h = ap (λ (k : ℕ). cond (leb r i) 8 (cond (eqb f withdrawn) 22 k)) (go (ltb last f) refl)
   where
     go : (q : Bool) → ltb last f ≡ q → cond q 9 x ≡ cond q 9 y
     go true e = refl

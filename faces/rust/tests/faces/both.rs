@@ -155,6 +155,13 @@ impl Both {
         self.model.bytes[place] = byte;
     }
 
+    /// A row of function 1 that stands there, as it was entered before the function went out.
+    pub fn stand(&mut self, row: u32, m: u64, times: u16) {
+        let arguments = [m, 0, 0];
+        self.model.put(row as usize, &model::new_row(model::WITHDRAWN, arguments, answers(model::WITHDRAWN, arguments), times));
+        self.lent.bytes_mut().copy_from_slice(&self.model.bytes);
+    }
+
     /// Other bytes of the same length.
     pub fn set(&mut self, bytes: &[u8]) {
         self.lent.bytes_mut().copy_from_slice(bytes);

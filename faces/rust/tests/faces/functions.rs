@@ -1,6 +1,6 @@
 //! The functions: answers that the rules name, and what holds of every answer.
 use crate::lent;
-use crate::model::{self, LARGEST, LAST, MINUS, NAN, ONE, PLUS, SIGN, TWO};
+use crate::model::{self, LARGEST, LAST, MINUS, NAN, ONE, PLUS, SIGN, TWO, WITHDRAWN};
 use crate::random::Random;
 use shuttlemint::integrals::{ellipe, ellipeinc, ellipf, ellipk, ellipke, ellippi};
 use shuttlemint::{evaluate, Refusal, StrErr};
@@ -230,7 +230,7 @@ fn ellip_signatures_and_texts() {
 fn the_three_sorts() {
     use shuttlemint::{Amplitude, Characteristic, Integral, Parameter, Sheet};
     let (phi, n, m) = (Amplitude(0.75), Characteristic(0.25), Parameter(0.5));
-    // Each function by sorts, by plain floats, and entered in a row.
+    // Each function by sorts, by plain floats, and entered in a row; but for the one that goes out.
     let all = [
         (Integral::ellipk(m), Integral::ellipk(0.5), ellipk(m)),
         (Integral::ellipe(m), Integral::ellipe(0.5), ellipe(m)),
@@ -244,6 +244,10 @@ fn the_three_sorts() {
         assert_eq!(sorts, floats);
         assert_eq!(sorts.function() as usize, row + 1);
         assert_eq!(sorts.values().unwrap()[0], first.unwrap());
+        if sorts.function() == WITHDRAWN {
+            assert_eq!(sheet.enter(row as u32, sorts), Err(Refusal::WITHDRAWN_FUNCTION));
+            continue;
+        }
         sheet.enter(row as u32, sorts).unwrap();
         let entered = sheet.row(row as u32).unwrap();
         assert_eq!((entered.function(), entered.arguments()), (sorts.function(), sorts.arguments()));

@@ -98,6 +98,7 @@ fn step(random: &mut Random, both: &mut Both, wounds: &mut Wounds, whole: bool) 
                 wounds.clear();
             }
         }
+        28 if wounds.is_empty() && both.model.edit_refusal(row, 0) == 0 => both.stand(row, arguments[0], times),
         27 if !whole => damage(random, both, wounds),
         // The last wound first, so that the sheet before it comes back.
         _ => {
@@ -127,9 +128,14 @@ fn run(seed: u64, least: u64) {
             *all += more;
         }
     }
-    println!("seed {seed}: {calls} calls on {sheets} sheets, no difference; answers 0 to 12 came {:?} times", &seen[..13]);
-    assert!(seen[..12].iter().all(|&times| times > 0), "some refusal was never met");
-    assert!(seen[12..].iter().all(|&times| times == 0), "a number that no call gives");
+    println!(
+        "seed {seed}: {calls} calls on {sheets} sheets, no difference; answers 0 to 11 came {:?} times, 22 {} times",
+        &seen[..12],
+        seen[22]
+    );
+    let given = |number: usize| number < 12 || number == 22;
+    assert!((0..256).all(|number| seen[number] > 0 || !given(number)), "some refusal was never met");
+    assert!((0..256).all(|number| seen[number] == 0 || given(number)), "a number that no call gives");
 }
 
 #[test]

@@ -92,6 +92,8 @@ pub fn named(function: u8, a: u64, b: u64) -> Option<Answers> {
 const USED: [usize; 7] = [0, 1, 1, 1, 2, 2, 2];
 /// The last function's number.
 pub const LAST: u8 = USED.len() as u8 - 1;
+/// The function that goes out: rows of it stand, and no new one is entered.
+pub const WITHDRAWN: u8 = 1;
 
 /// The arguments that the function reads, zeros for the others.
 pub fn read_by(function: u8, arguments: [u64; 3]) -> [u64; 3] {
@@ -265,6 +267,9 @@ impl Model {
         if row as usize >= rows {
             return 8;
         }
+        if function == WITHDRAWN {
+            return 22;
+        }
         if function > LAST {
             return 9;
         }
@@ -285,11 +290,16 @@ impl Model {
             return refusal;
         }
         let arguments = read_by(function, arguments);
-        let new = new_row(function, arguments, answers(function, arguments), driven);
-        let old = self.row(row as usize).to_vec();
+        self.put(row as usize, &new_row(function, arguments, answers(function, arguments), driven));
+        0
+    }
+
+    /// This row in place of a sound one, and the totals with it.
+    pub fn put(&mut self, row: usize, new: &[u8]) {
+        let old = self.row(row).to_vec();
         let mut counts = self.counts();
         let totals = self.bytes.len() - 296;
-        for (row, taken) in [(&old, true), (&new, false)] {
+        for (row, taken) in [(&old[..], true), (new, false)] {
             let class = class(row).expect("no NaN");
             if taken {
                 counts[class] -= 1
@@ -301,8 +311,7 @@ impl Model {
             }
         }
         self.bytes[totals..totals + 24].copy_from_slice(&words(&[&counts[..], &[0]].concat()));
-        self.bytes[32 + 48 * row as usize..80 + 48 * row as usize].copy_from_slice(&new);
-        0
+        self.bytes[32 + 48 * row..80 + 48 * row].copy_from_slice(new);
     }
 
     pub fn row_refusal(&self, row: u32) -> u8 {

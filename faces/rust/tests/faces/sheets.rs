@@ -1,7 +1,7 @@
 //! Good, bad and damaged sheets.
 use crate::both::{number, Both, CLASSES};
 use crate::lent;
-use crate::model::{self, LARGEST, LAST, MINUS, NAN, ONE, PLUS, SIGN, TWO};
+use crate::model::{self, LARGEST, LAST, MINUS, NAN, ONE, PLUS, SIGN, TWO, WITHDRAWN};
 use crate::random::Random;
 use shuttlemint::{Class, Integral, Refusal, Sheet};
 
@@ -113,7 +113,7 @@ fn the_safe_face_and_lengths() {
 /// A good sheet with a row of each class.
 fn a_row_of_each_class() -> Both {
     let mut both = Both::blank_of(5);
-    for (row, (function, a, b)) in [(5, ONE, 0), (1, ONE, 0), (4, PLUS, ONE), (4, ONE, ONE)].into_iter().enumerate() {
+    for (row, (function, a, b)) in [(5, ONE, 0), (3, ONE, 0), (4, PLUS, ONE), (4, ONE, ONE)].into_iter().enumerate() {
         assert_eq!(both.edit_times(row as u32 + 1, function, [a, b, 0], 0x0102), 0);
     }
     assert_eq!(both.model.bytes[32 + 48 * 5..52 + 48 * 5], bytes_of("01 00 00 00 01 00 00 00 01 00 00 00 01 00 00 00 01 00 00 00"));
@@ -206,15 +206,20 @@ fn counts_that_still_add_up() {
 
 #[test]
 fn the_first_refusal_in_the_order_is_given() {
-    // Bytes that are no sheet, row 5 of 5, a function past the last and damage: each in turn is put right.
+    // Bytes that are no sheet, row 5 of 5, a function past the last or the one that goes out, and damage: each in turn is put right.
     let mut both = a_row_of_each_class();
     both.poke(0, 2);
     both.poke(32 + 48 + 1, 200);
-    assert_eq!(both.edit(5, LAST + 1, [0; 3]), 7);
-    both.poke(0, model::OLD);
-    assert_eq!(both.edit(5, LAST + 1, [0; 3]), 7);
-    both.poke(0, model::NEW);
-    assert_eq!(both.edit(5, LAST + 1, [0; 3]), 8);
+    for function in [WITHDRAWN, LAST + 1] {
+        both.poke(0, 2);
+        assert_eq!(both.edit(5, function, [0; 3]), 7);
+        both.poke(0, model::OLD);
+        assert_eq!(both.edit(5, function, [0; 3]), 7);
+        both.poke(0, model::NEW);
+        assert_eq!(both.edit(5, function, [0; 3]), 8);
+    }
+    assert_eq!(both.edit(1, WITHDRAWN, [0; 3]), 22);
+    assert_eq!(both.safe_edit(1, WITHDRAWN, [0; 3], 1), 22);
     assert_eq!(both.edit(1, LAST + 1, [0; 3]), 9);
     assert_eq!(both.edit(1, 5, [0; 3]), 10);
     assert_eq!(both.safe_edit(1, 0, [0; 3], 1), 10);
@@ -230,7 +235,7 @@ fn the_first_refusal_in_the_order_is_given() {
 
 #[test]
 fn unused_arguments_do_not_show() {
-    for function in 0..=LAST {
+    for function in (0..=LAST).filter(|&function| function != WITHDRAWN) {
         let mut sheets = [[0; 3], [NAN, PLUS, 1], [u64::MAX; 3]].map(|junk| {
             let mut both = Both::blank_of(1);
             let used = model::read_by(function, [1, 1, 1]);
@@ -243,7 +248,7 @@ fn unused_arguments_do_not_show() {
     }
     // A NaN that is read is stored as it was given.
     let mut sheet = Sheet::blank(1).unwrap();
-    sheet.edit(0, 1, u64::MAX, 0, 0, 1).unwrap();
+    sheet.edit(0, 3, u64::MAX, 0, 0, 1).unwrap();
     let row = sheet.row(0).unwrap();
     assert_eq!((row.arguments(), row.refusal()), ([u64::MAX, 0, 0], Some(Refusal::NAN_ARGUMENT)));
 }
@@ -253,7 +258,7 @@ fn the_order_of_edits_never_shows() {
     let mut random = Random(3);
     for rows in [1, 3, 40, 1024] {
         let mut edits: Vec<_> =
-            (0..rows).map(|row| (row, random.one_of(&[0, 1, 2, 3, 4, 5, 5, 5]), random.patterns(), random.times())).collect();
+            (0..rows).map(|row| (row, random.one_of(&[0, 2, 3, 4, 5, 5, 5, 6]), random.patterns(), random.times())).collect();
         let sheets = [false, true].map(|detour| {
             let mut both = Both::blank_of(rows);
             for &(row, function, arguments, times) in &edits {
@@ -325,7 +330,7 @@ fn totals_at_the_edges_of_rounding() {
 #[test]
 fn times_in_every_class() {
     let often = [u16::MAX, 0, 1, 255, 256, 0x0102];
-    for (function, a, b) in [(0, 0, 0), (5, ONE, 0), (1, ONE, 0), (4, TWO, ONE), (4, ONE, ONE)] {
+    for (function, a, b) in [(0, 0, 0), (5, ONE, 0), (3, ONE, 0), (4, TWO, ONE), (4, ONE, ONE)] {
         let mut both = Both::blank_of(1);
         for times in often {
             assert_eq!(both.edit_times(0, function, [a, b, 0], times), 0);
@@ -354,6 +359,44 @@ fn times_in_every_class() {
     sheet.enter_times(1, Integral::ellipeinc(0.25, 0.0), 300).unwrap();
     assert_eq!((sheet.row(0).unwrap().times(), sheet.row(1).unwrap().times(), sheet.total()), (1, 300, 76.5));
     assert!(format!("{:?}", sheet.row(1).unwrap()).contains("times: 300"));
+}
+
+#[test]
+fn function_1_goes_out() {
+    // Each class that K has, and two numbers.
+    for m in [0, 0.5f64.to_bits(), ONE, MINUS, NAN, TWO] {
+        for times in [0, 1, u16::MAX] {
+            let mut both = Both::blank_of(2);
+            assert_eq!(both.edit(1, 5, [ONE, 0, 0]), 0);
+            both.stand(0, m, times);
+            both.is_worked_out();
+            let good = both.lent.bytes().to_vec();
+            for row in 0..3 {
+                both.read(row);
+                assert_eq!(both.edit_times(row, WITHDRAWN, [m, 0, 0], times), if row < 2 { 22 } else { 8 });
+                assert_eq!(both.safe_edit(row, WITHDRAWN, [ONE; 3], 1), if row < 2 { 22 } else { 8 });
+            }
+            assert!(both.lent.bytes() == good);
+            // The row is replaced, cleared, or stands beside one that is edited.
+            assert_eq!(both.edit_times(0, 3, [m, 0, 0], times), 0);
+            both.is_worked_out();
+            both.set(&good);
+            assert_eq!(both.safe_edit(0, 0, [0; 3], 0), 0);
+            assert_eq!(both.read(0), ONE);
+            both.set(&good);
+            assert_eq!(both.clear(1), 0);
+            both.read(0);
+            both.is_worked_out();
+            // An old sheet with it is read as any other.
+            both.set(&good);
+            both.poke(0, model::OLD);
+            both.read(0);
+            assert_eq!(both.edit(0, WITHDRAWN, [m, 0, 0]), 7);
+        }
+    }
+    let mut sheet = Sheet::blank(1).unwrap();
+    assert_eq!(sheet.enter(0, Integral::ellipk(0.5)), Err(Refusal::WITHDRAWN_FUNCTION));
+    assert_eq!(sheet, Sheet::blank(1).unwrap());
 }
 
 #[test]

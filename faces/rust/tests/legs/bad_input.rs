@@ -41,7 +41,11 @@ fn lines() {
     fails("from,to\n\"1,2\n", "line 2, column 1: a quote is opened here and not closed; close it, or write two for a quote");
     fails(
         "function,m\nellipx,1\n",
-        "line 2, column 1 (function): \"ellipx\" is no function; write ellipk, ellipe, ellipke, ellippi, ellipeinc or ellipf",
+        "line 2, column 1 (function): \"ellipx\" is no function; write ellipe, ellipke, ellippi, ellipeinc or ellipf",
+    );
+    fails(
+        "function,m\nellipke,1\nellipk,1\n",
+        "line 3, column 1 (function): ellipk goes out, and no sheet takes a new row of it; write ellipke, whose first answer is K(m) too",
     );
     fails("function,m\nellipf,1\n", "line 2: phi is needed here, and the header has no such column; add it");
 }

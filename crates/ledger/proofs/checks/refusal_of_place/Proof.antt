@@ -8,12 +8,12 @@ use Rattle.ledger.specs.Bytes.{fields}
 use Rattle.ledger.specs.Sheet.{withTimes}
 use Rattle.ledger.specs.Calls.{rowsIn, isSheetOf, rowRungs}
 use Rattle.ledger.specs.laws.Refusals.{past-row, sheet-of-length}
-use Rattle.ledger.proofs.Tested.{place-row, place-9, place-new, place-old, place-0}
+use Rattle.ledger.proofs.Tested.{place-row, place-function, place-new, place-old, place-0}
 use borrow.Author.Needs.{needs}
 use Rattle.ledger.proofs.checks.is_damaged.Reads as is-damaged-reads
 use Rattle.ledger.proofs.checks.is_sheet_of.Reads as is-sheet-of-reads
 use Rattle.ledger.proofs.checks.refusal_in.Reads as refusal-in-reads
-use Rattle.ledger.proofs.row.function_of.Reads as function-of-reads
+use Rattle.ledger.proofs.checks.refusal_of_function.Reads as refusal-of-function-reads
 use Rattle.ledger.proofs.row.words_sound.Reads as words-sound-reads
 use Rattle.ledger.proofs.checks.refusal_of_place.Statement.{statement}
 use Rattle.ledger.proofs.checks.refusal_of_place.Tie as tie
@@ -39,15 +39,16 @@ returns c =
     let q = told (a .s .now) (a .row) _ _ (c .before .refusal-in .ensures) (c .before .before .is-sheet-of .ensures) in
     q ∙ place-row (a .s .now) (a .row) (fields 8 (a .words)) (λ z. c .if1 .taken (q ∙ z))
 
-function-of-requires : tie.Need-function-of-requires
-function-of-requires c κs = search needs
+refusal-of-function-requires : tie.Need-refusal-of-function-requires
+refusal-of-function-requires c κs = search needs
 
 returns-2 : tie.Need-returns-2
 returns-2 c =
     let a = c .before .before .before .before .before .before .args in
     let k = asked (a .s .now) (a .row) _ _ (c .before .before .before .refusal-in .ensures) (c .before .before .before .before .is-sheet-of .ensures) (c .before .before .if1 .left) in
     let w = fields 8 (a .words) in
-    place-9 (a .s .now) (a .row) w (k .0) (k .1) (rw (← c .before .function-of .ensures) (c .if2 .taken))
+    let f = c .before .refusal-of-function .ensures in
+    f ∙ place-function (a .s .now) (a .row) w (k .0) (k .1) (λ z. c .if2 .taken (f ∙ z))
 
 words-sound-requires : tie.Need-words-sound-requires
 words-sound-requires c κs = search needs
@@ -57,7 +58,7 @@ returns-3 c =
     let a = c .before .before .before .before .before .before .before .before .args in
     let k = asked (a .s .now) (a .row) _ _ (c .before .before .before .before .before .refusal-in .ensures) (c .before .before .before .before .before .before .is-sheet-of .ensures) (c .before .before .before .before .if1 .left) in
     let w = fields 8 (a .words) in
-    place-new (a .s .now) (a .row) w (k .0) (k .1) (rw (← c .before .before .before .function-of .ensures) (c .before .before .if2 .left)) (sym (c .before .words-sound .ensures) ∙ not-true _ (c .if3 .taken))
+    place-new (a .s .now) (a .row) w (k .0) (k .1) (sym (c .before .before .before .refusal-of-function .ensures) ∙ c .before .before .if2 .left) (sym (c .before .words-sound .ensures) ∙ not-true _ (c .if3 .taken))
 
 is-damaged-requires : tie.Need-is-damaged-requires
 is-damaged-requires c κs =
@@ -70,14 +71,14 @@ returns-4 c =
     let a = c .before .before .before .before .before .before .before .before .before .before .args in
     let k = asked (a .s .now) (a .row) _ _ (c .before .before .before .before .before .before .before .refusal-in .ensures) (c .before .before .before .before .before .before .before .before .is-sheet-of .ensures) (c .before .before .before .before .before .before .if1 .left) in
     let w = fields 8 (a .words) in
-    place-old (a .s .now) (a .row) w (k .0) (k .1) (rw (← c .before .before .before .before .before .function-of .ensures) (c .before .before .before .before .if2 .left)) (sym (c .before .before .before .words-sound .ensures) ∙ not-false _ (c .before .before .if3 .left)) (sym (c .before .is-damaged .ensures) ∙ c .if4 .taken)
+    place-old (a .s .now) (a .row) w (k .0) (k .1) (sym (c .before .before .before .before .before .refusal-of-function .ensures) ∙ c .before .before .before .before .if2 .left) (sym (c .before .before .before .words-sound .ensures) ∙ not-false _ (c .before .before .if3 .left)) (sym (c .before .is-damaged .ensures) ∙ c .if4 .taken)
 
 returns-5 : tie.Need-returns-5
 returns-5 c =
     let a = c .before .before .before .before .before .before .before .before .before .before .args in
     let k = asked (a .s .now) (a .row) _ _ (c .before .before .before .before .before .before .before .refusal-in .ensures) (c .before .before .before .before .before .before .before .before .is-sheet-of .ensures) (c .before .before .before .before .before .before .if1 .left) in
     let w = fields 8 (a .words) in
-    place-0 (a .s .now) (a .row) w (k .0) (k .1) (rw (← c .before .before .before .before .before .function-of .ensures) (c .before .before .before .before .if2 .left)) (sym (c .before .before .before .words-sound .ensures) ∙ not-false _ (c .before .before .if3 .left)) (sym (c .before .is-damaged .ensures) ∙ c .if4 .left)
+    place-0 (a .s .now) (a .row) w (k .0) (k .1) (sym (c .before .before .before .before .before .refusal-of-function .ensures) ∙ c .before .before .before .before .if2 .left) (sym (c .before .before .before .words-sound .ensures) ∙ not-false _ (c .before .before .if3 .left)) (sym (c .before .is-damaged .ensures) ∙ c .if4 .left)
 
 pub refusal-of-place-spec : {M : Type 1} → statement M
 refusal-of-place-spec =
@@ -86,7 +87,7 @@ refusal-of-place-spec =
     is-sheet-of-requires
     refusal-in-requires
     returns
-    function-of-requires
+    refusal-of-function-requires
     returns-2
     words-sound-requires
     returns-3

@@ -13,9 +13,9 @@ The first line names the columns, in any order:
   from,to          a meridian arc on WGS84 between two latitudes in decimal
                    degrees, south below zero; it is as long both ways
   phi,m            the arc E(phi, m), phi in radians, times the half axis
-  function         ellipk, ellipe, ellipke, ellippi, ellipeinc or ellipf, with
-                   its arguments in the columns phi, n, m; its first answer,
-                   times the half axis
+  function         ellipe, ellipke, ellippi, ellipeinc or ellipf, with its
+                   arguments in the columns phi, n, m; its first answer, times
+                   the half axis
   times            how often the leg was driven, 0 to 65535; once, where there
                    is no such column
 

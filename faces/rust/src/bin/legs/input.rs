@@ -54,7 +54,7 @@ fn shown(cell: &[u8]) -> String {
     format!("\"{}{dots}\"", short.escape_debug())
 }
 
-const FUNCTIONS: &str = "ellipk, ellipe, ellipke, ellippi, ellipeinc or ellipf";
+const FUNCTIONS: &str = "ellipe, ellipke, ellippi, ellipeinc or ellipf";
 
 impl Layout {
     /// The number in the column of this title.
@@ -87,7 +87,10 @@ impl Layout {
         let number = |title| self.number(record, title, "0.5");
         let name = record.fields[place].trim_ascii().to_ascii_lowercase();
         let (integral, read): (_, &[Title]) = match &name[..] {
-            b"ellipk" => (Integral::ellipk(number(Title::M)?), &[Title::M]),
+            b"ellipk" => {
+                let what = "ellipk goes out, and no sheet takes a new row of it; write ellipke, whose first answer is K(m) too";
+                return Err(self.trouble(record.line, place, what.into()));
+            }
             b"ellipe" => (Integral::ellipe(number(Title::M)?), &[Title::M]),
             b"ellipke" => (Integral::ellipke(number(Title::M)?), &[Title::M]),
             b"ellippi" => (Integral::ellippi(number(Title::N)?, number(Title::M)?), &[Title::N, Title::M]),
@@ -222,9 +225,9 @@ mod tests {
         assert_eq!(legs("to,from\n0,90\n"), [(2, equator_to_pole, back)]);
         assert_eq!(legs("phi,m\n1.5,0.25\n-1e-3,-inf\n").len(), 2);
         assert_eq!(legs("m,phi\n0.25,1.5\n"), [(2, Integral::ellipeinc(1.5, 0.25), None)]);
-        let text = "name,function,phi,n,m\na,ellipk,,,0.5\nb,ellippi,,0.25,0.5\nc,EllipF,0.75,,0.5\nd,ellipeinc,0.75,,nan\n";
+        let text = "name,function,phi,n,m\na,ellipke,,,0.5\nb,ellippi,,0.25,0.5\nc,EllipF,0.75,,0.5\nd,ellipeinc,0.75,,nan\n";
         let integrals: Vec<_> = legs(text).into_iter().map(|leg| leg.1).collect();
-        assert_eq!(integrals[..3], [Integral::ellipk(0.5), Integral::ellippi(0.25, 0.5), Integral::ellipf(0.75, 0.5)]);
+        assert_eq!(integrals[..3], [Integral::ellipke(0.5), Integral::ellippi(0.25, 0.5), Integral::ellipf(0.75, 0.5)]);
         assert!(f64::from_bits(integrals[3].arguments()[1]).is_nan());
         assert_eq!(legs("function,m\nellipe,0.5\nellipke,1\n").len(), 2);
     }
@@ -313,7 +316,7 @@ mod tests {
         assert_eq!(times("from,to\n1,2\n3,4\n"), [1, 1]);
         assert_eq!(times("Times,from,to\n3,1,2\n 0 ,3,4\n65535,5,6\n\"7\",5,6\n"), [3, 0, 65535, 7]);
         assert_eq!(times("phi,m,times\n1,2,3\n"), [3]);
-        assert_eq!(times("function,m,times\nellipk,0.5,4\n"), [4]);
+        assert_eq!(times("function,m,times\nellipke,0.5,4\n"), [4]);
         for cell in ["65536", "-1", "1.0", "1e3", "x", "2 3", "18446744073709551617"] {
             let begins = format!("line 2, column 3 (times): \"{cell}\" is no number of times");
             fails(&format!("from,to,times\n1,2,{cell}\n"), &begins, "from 0 to 65535");
@@ -327,8 +330,11 @@ mod tests {
         let fails = |line: &str, begins: &str, goes_on: &str| fails(&format!("function,phi,m\n{line}\n"), begins, goes_on);
         fails("ellipx,1,0.5", "line 2, column 1 (function): \"ellipx\" is no function", "ellipeinc");
         fails(",1,0.5", "line 2, column 1 (function): \"\" is no function", "");
-        fails("ellipk,1,0.5", "line 2, column 2 (phi): ellipk does not read this", "leave it empty");
-        fails("ellipk,,", "line 2, column 3 (m): nothing is written here", "");
+        fails("ellipke,1,0.5", "line 2, column 2 (phi): ellipke does not read this", "leave it empty");
+        fails("ellipke,,", "line 2, column 3 (m): nothing is written here", "");
+        for line in ["ellipk,,0.5", "EllipK,1,", "ellipk,,x"] {
+            fails(line, "line 2, column 1 (function): ellipk goes out", "write ellipke");
+        }
         fails("ellippi,,0.5", "line 2: n is needed here", "add it");
     }
 
@@ -348,7 +354,8 @@ mod tests {
             (random >> 33) as usize % below
         };
         let signs = [",", "\n", "\r\n", "\"", "1", "-90", "x", ";", "from", "name", "\u{feff}", "é", " "];
-        let lines = ["1,2\n", "0.5,-90\r\n", "a,1,2\n", "ellipk,0.5\n", "\"1\",2\n", "\"two\nlines\",1,2\r\n", "\n", "1,2,3\n"];
+        let lines =
+            ["1,2\n", "0.5,-90\r\n", "a,1,2\n", "ellipke,0.5\n", "ellipk,0.5\n", "\"1\",2\n", "\"two\nlines\",1,2\r\n", "\n", "1,2,3\n"];
         let heads = ["from,to\n", "name,from,to\r\n", "phi,m\n", "function,m\n", ""];
         let (mut taken, mut told) = (0, 0);
         for _ in 0..20_000 {

@@ -178,7 +178,7 @@ mod tests {
     #[test]
     fn a_leg_without_a_length_is_kept_and_adds_nothing() {
         let refused = Integral::ellippi(1.0, 0.5);
-        let (below, above) = (Integral::ellippi(2.0, 1.0), Integral::ellipk(1.0));
+        let (below, above) = (Integral::ellippi(2.0, 1.0), Integral::ellipke(1.0));
         let one = Integral::ellipeinc(1.0, 0.0);
         let (lengths, sums, sheets) = worked(&legs([
             (one, None),

@@ -13,6 +13,8 @@ The script goes to standard output, one call a line, fields one space apart, num
   T answer pattern                   total_refusal, and total as a bit pattern (2, 16)
   N class count                      count (2, 8)
   S sum                              the whole buffer as one number, first byte highest, modulo 2^55 - 55 (16)
+  D                                  the buffer is kept aside
+  B                                  the buffer is, byte by byte, the one kept aside
 
 Whoever replays it compares each answer, and each S with the bytes of its own buffer. The functions are used only where 01 or 02 names the answer (ellipeinc and ellipf at
 m = 0, at an angle of 0 or far out, at m = -∞, the others at their ends and refusals), so the model holds no elliptic integral."""
@@ -197,6 +199,7 @@ class Sheet:
 
 out = []
 sheet = None
+aside = None
 
 
 def new(length, fill=0):
@@ -210,10 +213,15 @@ def make(r): out.append('M %08x %02x' % (r, sheet.make(r)))
 
 def edit(i, f, a=0, b=0, c=0, times=1):
     if f <= LAST and f != WITHDRAWN and evaluate(f, a, b) is None: raise ValueError('no rule names this answer: %d %x %x' % (f, a, b))
-    out.append('E %08x %02x %016x %016x %016x %04x %02x' % (i, f, a, b, c, times, sheet.edit(i, f, a, b, c, times)))
+    number = sheet.edit(i, f, a, b, c, times)
+    out.append('E %08x %02x %016x %016x %016x %04x %02x' % (i, f, a, b, c, times, number))
+    return number
 
 
-def clear(i): out.append('C %08x %02x' % (i, sheet.edit(i, 0, 0, 0, 0, 0)))
+def clear(i):
+    number = sheet.edit(i, 0, 0, 0, 0, 0)
+    out.append('C %08x %02x' % (i, number))
+    return number
 
 
 def poke(p, x):
@@ -238,6 +246,17 @@ def read(i):
 def total(): out.append('T %02x %016x' % sheet.total())
 def count(k): out.append('N %02x %08x' % (k, sheet.count(k)))
 def check(): out.append('S %016x' % sheet.sum())
+
+
+def keep():
+    global aside
+    aside = bytes(sheet.b)
+    out.append('D')
+
+
+def same():
+    assert aside == sheet.b
+    out.append('B')
 
 
 def afresh():
@@ -280,12 +299,16 @@ CORNERS = [(1, ONE, 0), (1, MINUS, 0), (1, NAN, 0), (1, ONE + 1, 0), (2, ONE, 0)
 
 
 def any_edit(rng, rows):
-    i = rng.choice([rng.randrange(rows) if rows else 0] * 9 + [rows])
+    """What an edit is given; the row alone where it clears."""
+    i = rng.choice([rng.randrange(rows) if rows else 0] * 9 + [rng.choice([rows, rows, rows + 1, 0xffffffff])])
     pick = rng.randrange(12)
-    if pick == 0: clear(i)
-    elif pick == 1: edit(i, rng.choice([0, 1, 7, 8, 255]), value(rng), value(rng), value(rng), often(rng))
-    elif pick < 5: f, a, b = rng.choice(CORNERS); edit(i, f, a, b, value(rng), often(rng))
-    else: edit(i, rng.choice([5, 6]), value(rng), rng.choice([0, SIGN]), value(rng), often(rng))
+    if pick == 0: return (i,)
+    if pick == 1: return i, rng.choice([0, 1, 7, 8, 255]), value(rng), value(rng), value(rng), often(rng)
+    if pick < 5: return (i, *rng.choice(CORNERS), value(rng), often(rng))
+    return i, rng.choice([5, 6]), value(rng), rng.choice([0, SIGN]), value(rng), often(rng)
+
+
+def do(given): return clear(*given) if len(given) == 1 else edit(*given)
 
 
 def example():
@@ -453,16 +476,45 @@ def wander(rng):
         new(328 + 48 * r); make(r)
         for i in rng.sample(range(r), r // 3 if r < 32 else 8): stand(i, *rng.choice(STANDING), often(rng))
         for k in range(n):
-            any_edit(rng, r)
+            do(any_edit(rng, r))
             if k % 10 == 9: total()
             if k % 50 == 49: all_reads([rng.randrange(r), r])
         afresh()
 
 
+def shuffled(rng, edits):
+    """The same edits in another order, those of each row in their own."""
+    rows = [given[0] for given in edits]
+    rng.shuffle(rows)
+    left = {i: [given for given in edits if given[0] == i] for i in rows}
+    return [left[i].pop(0) for i in rows]
+
+
+def shuffles(rng):
+    """Lists of edits and shuffles of them, each from the same start, blank or with rows that stand: the bytes and each edit's number are the same."""
+    seen = set()
+    for r, n, turns in ((0, 6, 1), (1, 20, 2), (2, 30, 3), (5, 60, 4), (40, 120, 3), (1024, 150, 1)):
+        for standing in sorted({0, min((r + 2) // 3, 6)}):
+            before = [(i, *rng.choice(STANDING), often(rng)) for i in rng.sample(range(r), standing)]
+            edits = [any_edit(rng, r) for _ in range(n)]
+            by_row = [sorted(edits, key=lambda given: sign * given[0]) for sign in (1, -1)]
+            for turn, one in enumerate([edits, *by_row] + [shuffled(rng, edits) for _ in range(turns)]):
+                new(328 + 48 * r, turn); make(r)
+                for row in before: stand(*row)
+                told = {}
+                for given in one: told.setdefault(given[0], []).append(do(given))
+                check(); total(); afresh()
+                if turn: same()
+                else: keep(); first = told
+                assert told == first
+            seen.update(*told.values())
+    assert seen == {0, 8, 9, 22}
+
+
 def script(rng):
     """All parts; the lines are in `out`."""
     example()
-    for part in (sizes, repaired, orders, ties, times_driven, limbs, old_sheets, withdrawn, wander, damage): part(rng)
+    for part in (sizes, repaired, orders, ties, times_driven, limbs, old_sheets, withdrawn, wander, shuffles, damage): part(rng)
 
 
 def main():

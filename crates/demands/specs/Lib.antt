@@ -3,5 +3,7 @@ pub mod Edits
 pub mod Demand1
 pub mod Demand2
 pub mod Demand3
+pub mod Shuffles
+pub mod ShuffledEdits
 pub mod Corners
 pub mod laws

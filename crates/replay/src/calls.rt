@@ -7,6 +7,7 @@ use super::script::shaped;
 use super::script::word;
 use sheet::Entry;
 ghost use Prim.Native.Nat.{_≤_};
+ghost use mathlib.Core.Path.{_≡_};
 ghost use lib.ListN.{length};
 
 fn fill(s: &mut [u8], b: u8) {
@@ -35,6 +36,31 @@ fn checksum(s: &[u8]) -> u64 {
         i += 1;
     }
     h
+}
+
+// So many bytes of the first half, put in the second.
+pub(crate) fn keep(s: &mut [u8], size: usize)
+    requires { ⌜ (length (now s) ≡ 99328) × (size ≤ 49664) ⌝ }
+{
+    let mut i: usize = 0;
+    while i < size {
+        s[49664 + i] = s[i];
+        i += 1;
+    }
+}
+
+// Whether they are, byte by byte, those of the second.
+pub(crate) fn is_kept(s: &[u8], size: usize) -> bool
+    requires { ⌜ (length (now s) ≡ 99328) × (size ≤ 49664) ⌝ }
+{
+    let mut i: usize = 0;
+    while i < size {
+        if s[49664 + i] != s[i] {
+            return false;
+        }
+        i += 1;
+    }
+    true
 }
 
 fn make(line: &[u8], sheet: &mut [u8]) -> bool {

@@ -34,7 +34,7 @@ class Replay:
     """Replays a script of oracle/sheet_model.py: a buffer that is a sheet through `Sheet`, any other through the library's own calls."""
 
     def __init__(self, test):
-        self.test, self.data, self.calls = test, bytearray(), 0
+        self.test, self.data, self.aside, self.calls = test, bytearray(), b"", 0
 
     def sheet(self):
         try:
@@ -112,6 +112,10 @@ class Replay:
         elif what == "N":
             sheet = self.sheet()
             test.assertEqual(sheet.counts()[numbers[0]] if sheet and numbers[0] < 5 else 0, numbers[1])
+        elif what == "D":
+            self.aside = bytes(self.data)
+        elif what == "B":
+            test.assertEqual(self.data, self.aside)
         else:
             test.assertEqual(int.from_bytes(self.data, "big") % ((1 << 55) - 55), numbers[0])
         self.calls += what != "L"

@@ -8,7 +8,7 @@ use Rattle.replay.proofs.feed_all.Statement.{statement}
 use Rattle.replay.proofs.feed_all.Tie as tie
 
 abbrev Inv-loop : tie.InvT-loop
-Inv-loop part line₀ buffer₀ s₀ i₀ line buffer s i = (i ≤ length part) × (length line ≡ 256) × (length buffer ≡ 49664) × (s .length ≤ 49664) × (s .held ≤ 256)
+Inv-loop part line₀ buffer₀ s₀ i₀ line buffer s i = (i ≤ length part) × (length line ≡ 256) × (length buffer ≡ 99328) × (s .length ≤ 49664) × (s .held ≤ 256)
 
 abbrev μ-loop : tie.MeasureT-loop
 μ-loop part line₀ buffer₀ s₀ i₀ line buffer s i = length part - i

@@ -7,7 +7,7 @@ use Rattle.replay.proofs.run.Statement.{statement}
 use Rattle.replay.proofs.run.Tie as tie
 
 abbrev Inv-loop : tie.InvT-loop
-Inv-loop line₀ buffer₀ st₀ turns₀ line buffer st turns = (length line ≡ 256) × (length buffer ≡ 49664) × (st .length ≤ 49664) × (st .held ≤ 256)
+Inv-loop line₀ buffer₀ st₀ turns₀ line buffer st turns = (length line ≡ 256) × (length buffer ≡ 99328) × (st .length ≤ 49664) × (st .held ≤ 256)
 
 abbrev μ-loop : tie.MeasureT-loop
 μ-loop line₀ buffer₀ st₀ turns₀ line buffer st turns = turns

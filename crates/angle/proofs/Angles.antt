@@ -16,7 +16,7 @@ use Rattle.bounds.specs.laws.Powers.{pow-one}
 use Rattle.bounds.specs.laws.Squares.{square-low, square-high}
 use Rattle.angle.proofs.Taylor.{whole, exact, whole-pos, weight, nested}
 use Rattle.angle.proofs.Sums.{short, slight, sizes-small, sum-low, sum-high, sine-slight, sine-short, cosine-slight, cosine-short}
-use Rattle.angle.proofs.Circle.{sixteen, sine-unit, cosine-unit}
+use Rattle.angle.proofs.Pythagoras.{sixteen, sine-unit, cosine-unit}
 
 ruleset sorted = (mul-add, add-mul, mul-assoc, mul-comm, mul-left-comm)
 

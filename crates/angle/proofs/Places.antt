@@ -1,17 +1,27 @@
 -- Binary places moved: what the shifts of `scaled` and `fixed` give. Assumes nothing.
 use mathlib.Core.Path.{_≡_, sym, ap, _∙_}
 use Prim.Native.Nat.{ℕ, _+_, _-_, _*_, _/_, _%_, _^_, _≤_, _<_}
-use native.Mathlib.Nat.{mul-assoc, mul-div-cancel, div-eq-of-lt, lt-of-lt-of-le, lt-of-mul-lt-mul-right}
+use native.Mathlib.Nat.{mul-assoc, mul-comm, mul-left-comm, mul-add-div-right, mul-div-cancel, div-eq-of-lt, lt-of-lt-of-le}
 use native.Mathlib.Omega.{arith}
-use lib.Pow.{pow-add, pow-pos, pow-mono, shl-exact}
+use lib.Pow.{split, pow-add, pow-pos, pow-mono, shl-exact}
 use lib.Ieee.Nearest.{div-same}
 
--- the upper limb of a small number
-pub high-small : (high low n c : ℕ) → high * 2 ^ 64 + low ≡ n → n < c * 2 ^ 64 → high < c
-high-small high low n c e h = lt-of-mul-lt-mul-right (2 ^ 64) (go (2 ^ 64) e h)
+-- a * b in units of 2^59: what lies above 2^59 in a, times b, and the rest of a, moved up by 5 places, times b in units of 2^64
+pub parted : (a b : ℕ) → a / 2 ^ 59 * b + a * 2 ^ 5 % 2 ^ 64 * b / 2 ^ 64 ≡ a * b / 2 ^ 59
+parted a b =
+    let q = a / 2 ^ 59 in
+    let r = a % 2 ^ 59 in
+    ap (λ (x : ℕ). q * b + x) (ap (λ (x : ℕ). x * b / 2 ^ 64) (raised a) ∙ div-same (r * 2 ^ 5 * b) (2 ^ 64) (r * b) (2 ^ 59) (pow-pos 64) (pow-pos 59) (regroup r (2 ^ 5) (2 ^ 59)))
+    ∙ sym (mul-add-div-right (pow-pos 59) (q * b) (r * b)) ∙ ap (λ (x : ℕ). x / 2 ^ 59) (join q r (2 ^ 59) ∙ ap (λ (x : ℕ). x * b) (split a 59))
   where
-    go : (W : ℕ) → high * W + low ≡ n → n < c * W → high * W < c * W
-    go W e h = omega arith
+    raised : (a : ℕ) → a * 2 ^ 5 % 2 ^ 64 ≡ a % 2 ^ 59 * 2 ^ 5
+    raised a = omega arith
+
+    regroup : (r x y : ℕ) → r * x * b * y ≡ r * b * (x * y)
+    regroup r x y = simp (mul-assoc, mul-comm, mul-left-comm)
+
+    join : (q r x : ℕ) → q * b * x + r * b ≡ (q * x + r) * b
+    join q r x = omega arith
 
 -- ---- digits * 2^exponent smallest f64, 2^-1074 each, in units of 2^-59
 abbrev unit : ℕ

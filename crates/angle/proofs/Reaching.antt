@@ -125,13 +125,6 @@ viewed-refused x n digits exponent square negative h k r e =
     none : r ≡ 0 → ⊥
     none z = omega arith
 
-pub not-refused : {n : ℕ} → n ≤ 0 → n ≡ 0
-not-refused h = omega arith
-
-pub view-square : (x : Float) (refusal : ℕ) (negative : Bool) (digits exponent square : ℕ) → Viewed x refusal negative digits exponent square → refusal ≤ 0 → square ≤ 2 ^ 63
-view-square x refusal negative digits exponent square v h =
-    subst (λ (t : ℕ). t ≤ 2 ^ 63) (sym (v .square-is (not-refused h))) (square-le (digits * 2 ^ exponent) (2 ^ 1074) (pow-pos 1074) (v .most (not-refused h)))
-
 -- ---- the definitions see the fraction alone
 square-same : (p q a c : ℕ) → 0 < q → 0 < c → p * c ≡ a * q → squareOf p q ≡ squareOf a c
 unfolding squareOf
@@ -170,42 +163,56 @@ unfolding cosineAt
 cosine-same s p q a c Q C e =
     ap (λ (t : ℕ). round binary64 (ltb (alternatingOf t 0 21 .added) (alternatingOf t 0 21 .taken)) (distanceOf (alternatingOf t 0 21 .added) (alternatingOf t 0 21 .taken)) (2 ^ 60)) (square-same p q a c Q C e)
 
--- ---- the result: the rounding counts in 2^-2340, the sum in 2^-60, and x in 2^-1074
-abbrev sum-unit : ℕ
-sum-unit = 2340 - 60
+-- ---- what a view that does not refuse leads to
+module _ {x : Float} {refusal : ℕ} {negative : Bool} {digits exponent square : ℕ} (view : Viewed x refusal negative digits exponent square) (h : refusal ≤ 0) where
+  z : refusal ≡ 0
+  z = omega arith
 
-abbrev product-unit : ℕ
-product-unit = 2340 - 60 - 1074
+  pub view-room : exponent ≤ 1024
+  view-room = view .room z
 
-module _ (x : Float) (refusal : ℕ) (negative : Bool) (digits exponent square : ℕ) (view : Viewed x refusal negative digits exponent square) (z : refusal ≡ 0) (b : Balance) (gap : ℕ) (eg : gap ≡ distanceOf (b .added) (b .taken)) (r : Float) where
-  pub is-sine : b ≡ alternatingOf square 1 20 → (sign : Bool) → sign ≡ unlike negative (ltb (b .added) (b .taken)) → (w : ℕ) → w ≡ digits * gap → r ≡ roundedOf sign w false (exponent + product-unit) → One r ≡ sineOf x
-  unfolding sineOf sineAt roundedOf
-  is-sine eb sign es w ew er =
-      ap One (er ∙ round-same binary64 sign ((2 * w + 0) * 2 ^ (exponent + product-unit)) (2 ^ 2341) (digits * 2 ^ exponent * gap) (2 ^ 1074 * 2 ^ 60) (pow-pos 2341) (mul-pos (pow-pos 1074) (pow-pos 60)) moved
-      ∙ ap₂ (λ (u : Bool) (v : ℕ). round binary64 u (digits * 2 ^ exponent * v) (2 ^ 1074 * 2 ^ 60)) es eg ∙ ap at (eb ∙ ap (λ (t : ℕ). alternatingOf t 1 20) (view .square-is z)))
-      ∙ answered sineAt sine-same x negative (digits * 2 ^ exponent) (2 ^ 1074) (pow-pos 1074) (view .most z) (view .value z)
+  pub view-square : square ≤ 2 ^ 63
+  view-square = subst (λ (t : ℕ). t ≤ 2 ^ 63) (sym (view .square-is z)) (square-le (digits * 2 ^ exponent) (2 ^ 1074) (pow-pos 1074) (view .most z))
+
+  pub is-sine : {b : Balance} → b ≡ alternatingOf square 1 20
+      → {r : Float} → r ≡ round binary64 (unlike negative (ltb (b .added) (b .taken))) (digits * 2 ^ exponent * distanceOf (b .added) (b .taken)) (2 ^ 1074 * 2 ^ 60) → One r ≡ sineOf x
+  unfolding sineOf sineAt
+  is-sine eb er =
+      ap One (er ∙ ap at (eb ∙ ap (λ (t : ℕ). alternatingOf t 1 20) (view .square-is z))) ∙ answered sineAt sine-same x negative (digits * 2 ^ exponent) (2 ^ 1074) (pow-pos 1074) (view .most z) (view .value z)
     where
       at : Balance → Float
       at c = round binary64 (unlike negative (ltb (c .added) (c .taken))) (digits * 2 ^ exponent * distanceOf (c .added) (c .taken)) (2 ^ 1074 * 2 ^ 60)
 
-      moved : (2 * w + 0) * 2 ^ (exponent + product-unit) * (2 ^ 1074 * 2 ^ 60) ≡ digits * 2 ^ exponent * gap * 2 ^ 2341
-      moved =
-          ap₂ (λ (u v : ℕ). (2 * u + 0) * v * (2 ^ 1074 * 2 ^ 60)) ew (pow-add 2 exponent product-unit)
-          ∙ ap (λ (y : ℕ). y * (2 ^ exponent * 2 ^ product-unit) * (2 ^ 1074 * 2 ^ 60)) (add-zero (2 * (digits * gap)))
-          ∙ go digits gap (2 ^ exponent) (2 ^ product-unit) (2 ^ 1074) (2 ^ 60)
-        where
-          go : (d g u a b c : ℕ) → 2 * (d * g) * (u * a) * (b * c) ≡ d * u * g * (2 * a * b * c)
-          go d g u a b c = simp (mul-assoc, mul-comm, mul-left-comm)
-
-  pub is-cosine : b ≡ alternatingOf square 0 21 → r ≡ roundedOf (ltb (b .added) (b .taken)) (0 * 2 ^ 64 + gap) false sum-unit → One r ≡ cosineOf x
-  unfolding cosineOf cosineAt roundedOf
+  pub is-cosine : {b : Balance} → b ≡ alternatingOf square 0 21 → {r : Float} → r ≡ round binary64 (ltb (b .added) (b .taken)) (distanceOf (b .added) (b .taken)) (2 ^ 60) → One r ≡ cosineOf x
+  unfolding cosineOf cosineAt
   is-cosine eb er =
-      ap One (er ∙ round-same binary64 (ltb (b .added) (b .taken)) ((2 * (0 * 2 ^ 64 + gap) + 0) * 2 ^ sum-unit) (2 ^ 2341) gap (2 ^ 60) (pow-pos 2341) (pow-pos 60) (moved gap (2 ^ sum-unit) (2 ^ 60))
-      ∙ ap (λ (v : ℕ). round binary64 (ltb (b .added) (b .taken)) v (2 ^ 60)) eg ∙ ap at (eb ∙ ap (λ (t : ℕ). alternatingOf t 0 21) (view .square-is z)))
-      ∙ answered cosineAt cosine-same x negative (digits * 2 ^ exponent) (2 ^ 1074) (pow-pos 1074) (view .most z) (view .value z)
+      ap One (er ∙ ap at (eb ∙ ap (λ (t : ℕ). alternatingOf t 0 21) (view .square-is z))) ∙ answered cosineAt cosine-same x negative (digits * 2 ^ exponent) (2 ^ 1074) (pow-pos 1074) (view .most z) (view .value z)
     where
       at : Balance → Float
       at c = round binary64 (ltb (c .added) (c .taken)) (distanceOf (c .added) (c .taken)) (2 ^ 60)
 
+-- ---- the one rounding counts in 2^-2340, the sum in 2^-60, and x in 2^-1074
+abbrev sum-unit : ℕ
+sum-unit = 2340 - 60
+
+abbrev product-unit : ℕ
+product-unit = sum-unit - 1074
+
+module _ (sign : Bool) where
+  pub product-rounded : (digits exponent gap w : ℕ) → w ≡ digits * gap → roundedOf sign w false (exponent + product-unit) ≡ round binary64 sign (digits * 2 ^ exponent * gap) (2 ^ 1074 * 2 ^ 60)
+  unfolding roundedOf
+  product-rounded digits exponent gap w ew =
+      round-same binary64 sign ((2 * w + 0) * 2 ^ (exponent + product-unit)) (2 ^ 2341) (digits * 2 ^ exponent * gap) (2 ^ 1074 * 2 ^ 60) (pow-pos 2341) (mul-pos (pow-pos 1074) (pow-pos 60))
+      (ap₂ (λ (u v : ℕ). (2 * u + 0) * v * (2 ^ 1074 * 2 ^ 60)) ew (pow-add 2 exponent product-unit)
+      ∙ ap (λ (y : ℕ). y * (2 ^ exponent * 2 ^ product-unit) * (2 ^ 1074 * 2 ^ 60)) (add-zero (2 * (digits * gap)))
+      ∙ moved digits gap (2 ^ exponent) (2 ^ product-unit) (2 ^ 1074) (2 ^ 60))
+    where
+      moved : (d g u a b c : ℕ) → 2 * (d * g) * (u * a) * (b * c) ≡ d * u * g * (2 * a * b * c)
+      moved d g u a b c = simp (mul-assoc, mul-comm, mul-left-comm)
+
+  pub sum-rounded : (gap : ℕ) → roundedOf sign (0 * 2 ^ 64 + gap) false sum-unit ≡ round binary64 sign gap (2 ^ 60)
+  unfolding roundedOf
+  sum-rounded gap = round-same binary64 sign ((2 * (0 * 2 ^ 64 + gap) + 0) * 2 ^ sum-unit) (2 ^ 2341) gap (2 ^ 60) (pow-pos 2341) (pow-pos 60) (moved gap (2 ^ sum-unit) (2 ^ 60))
+    where
       moved : (g a b : ℕ) → (2 * (0 * 2 ^ 64 + g) + 0) * a * b ≡ g * (2 * a * b)
       moved g a b = simp sorted (omega arith)

@@ -19,7 +19,7 @@ two-pos n = mul-pos (up n 0) (up n 1)
     up : (n i : ℕ) → 0 < n + (i + 1)
     up n i = omega arith
 
-two-least : (n i : ℕ) → i ≤ n → two i ≤ two n
+pub two-least : (n i : ℕ) → i ≤ n → two i ≤ two n
 two-least n i h = mul-le-mul (more n i 1 h) (more n i 2 h)
   where
     more : (n i j : ℕ) → i ≤ n → i + j ≤ n + j

@@ -1,5 +1,5 @@
 -- The alternating sum of sine and cosine in fixed point: docs/STEPS.md, "The alternating sum". Definitions only.
-use Prim.Native.Nat.{ℕ, zero, suc, _+_, _*_, _/_, _^_, _≤_, _<_}
+use Prim.Native.Nat.{ℕ, zero, suc, _+_, _-_, _*_, _/_, _^_, _≤_, _<_}
 use mathlib.Core.Path.{_≡_}
 use lib.Dec.{ltb}
 use lib.Ieee.{Float, nan, inf, fin, up, down}
@@ -32,6 +32,10 @@ upToFour f (fin s m e) =
     One (f s (m * up e) (down e))
 
 -- ---- what the steps promise each other
+
+-- the sum from degree n on: sine's, to degree 41, where n is odd, or cosine's, to 42
+abbrev pub tailOf : ℕ → ℕ → Balance
+tailOf t n = alternatingOf t n ((42 - n) / 2)
 
 -- x is refused by its number, or is ± digits * 2^exponent smallest values, at most 4, with this square
 pub record Viewed (x : Float) (refusal : ℕ) (negative : Bool) (digits exponent square : ℕ) : Type 0 where

@@ -6,7 +6,9 @@
 // the cut sums from n on, short of the exact ones by a few units (the divisors still to come divide
 // what was lost). Their difference is cosine, and times x sine; one rounding to nearest ends each.
 ghost use mathlib.Core.Path.{_≡_};
-ghost use lib.Ieee.{unlike};
+ghost use Prim.Native.Nat.{_*_, _^_, _≤_};
+ghost use lib.Dec.{ltb};
+ghost use lib.Ieee.{binary64, unlike, round};
 ghost use Rattle.bounds.specs.Close.{distanceOf};
 ghost use Rattle.angle.specs.Series.{SineWithin, CosineWithin, UpToOne};
 ghost use Rattle.angle.specs.Sine.{sineOf};
@@ -16,10 +18,13 @@ mod argument;
 mod series;
 
 use answer::Answer;
+use argument::Angle;
 use argument::view;
 use bits::product;
 use bits::rounded;
-use series::alternating;
+use series::Balance;
+use series::even;
+use series::odd;
 
 // The rounding counts in 2^-2340, the sum in 2^-60; x is a whole number of smallest f64, 2^-1074.
 const SUM_UNIT: u64 = 2340 - 60;
@@ -38,6 +43,24 @@ fn differ(a: bool, b: bool) -> bool
     if a { !b } else { b }
 }
 
+// The sum is sin x / x: times all digits of x, so that small x lose none.
+fn sine_from(a: Angle, b: Balance) -> f64
+    requires { ⌜ a.exponent ≤ 1024 ⌝ }
+    ensures { λ r. ⌜ r ≡ round binary64 (unlike a.negative (ltb b.added b.taken)) (a.digits * 2 ^ a.exponent * distanceOf b.added b.taken) (2 ^ 1074 * 2 ^ 60) ⌝ }
+{
+    let v = product(a.digits, distance(b.added, b.taken));
+    let negative = differ(a.negative, b.added < b.taken);
+    rounded(negative, v.high, v.low, false, a.exponent + PRODUCT_UNIT)
+}
+
+// The sum is cos x.
+fn cosine_from(b: Balance) -> f64
+    ensures { λ r. ⌜ r ≡ round binary64 (ltb b.added b.taken) (distanceOf b.added b.taken) (2 ^ 60) ⌝ }
+{
+    let gap = distance(b.added, b.taken);
+    rounded(b.added < b.taken, 0, gap, false, SUM_UNIT)
+}
+
 // Within |x| 2^-52 of x - x^3/3! + .. + x^41/41!, never above 1, odd, and x itself for |x| < 2^-30.
 pub fn sine(x: f64) -> Answer
     ensures { λ r. ⌜ (r ≡ sineOf x) × SineWithin 48 x r × SineWithin 52 x r × UpToOne r ⌝ }
@@ -46,11 +69,7 @@ pub fn sine(x: f64) -> Answer
     if a.refusal > 0 {
         return Answer::Refused(a.refusal);
     }
-    let b = alternating(41, a.square);
-    // the sum is sin x / x: times all digits of x, so that small x lose none
-    let v = product(a.digits, distance(b.added, b.taken));
-    let negative = differ(a.negative, b.added < b.taken);
-    Answer::One(rounded(negative, v.high, v.low, false, a.exponent + PRODUCT_UNIT))
+    Answer::One(sine_from(a, odd(a.square)))
 }
 
 // Within 2^-52 of 1 - x^2/2! + .. - x^42/42!, never above 1, and even.
@@ -61,12 +80,30 @@ pub fn cosine(x: f64) -> Answer
     if a.refusal > 0 {
         return Answer::Refused(a.refusal);
     }
-    let b = alternating(42, a.square);
-    Answer::One(rounded(
-        b.added < b.taken,
-        0,
-        distance(b.added, b.taken),
-        false,
-        SUM_UNIT,
-    ))
+    Answer::One(cosine_from(even(a.square)))
+}
+
+// The two answers of one angle.
+pub struct Circle {
+    pub sine: Answer,
+    pub cosine: Answer,
+}
+
+// Both, as `sine` and `cosine` answer: x is seen once, and neither sum waits for the other.
+pub fn sine_cosine(x: f64) -> Circle
+    ensures { λ r. ⌜ (r .sine ≡ sineOf x) × (r .cosine ≡ cosineOf x) ⌝ }
+{
+    let a = view(x);
+    if a.refusal > 0 {
+        return Circle {
+            sine: Answer::Refused(a.refusal),
+            cosine: Answer::Refused(a.refusal),
+        };
+    }
+    let s = odd(a.square);
+    let c = even(a.square);
+    Circle {
+        sine: Answer::One(sine_from(a, s)),
+        cosine: Answer::One(cosine_from(c)),
+    }
 }

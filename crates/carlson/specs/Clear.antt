@@ -7,13 +7,10 @@ use lib.Ieee.Scale.{finite}
 use Rattle.laws.specs.Arithmetic.{_⊕_, _⊗_, 4·0}
 use Rattle.laws.specs.Clear.{isZero, ClearSum, ClearDifference, ClearProduct, ClearQuotient}
 use Rattle.root.specs.Root.{rootOf}
+use Rattle.carlson.specs.Series.{spreadOf}
 
 abbrev pub ClearRoot : Float → Type 0
 ClearRoot x = T (finite (rootOf x))
-
--- L = √x√y + √y√z + √z√x
-abbrev pub spreadOf : Float → Float → Float → Float
-spreadOf x y z = rootOf x ⊗ rootOf y ⊕ rootOf y ⊗ rootOf z ⊕ rootOf z ⊗ rootOf x
 
 pub record ClearSpread (x y z : Float) : Type 0 where
   pub root-x : ClearRoot x

@@ -1,5 +1,6 @@
 -- What is proved of the loop, whatever the recipe.
 pub mod Duplication
+pub mod Together
 pub mod Counts
 pub mod Unmet
 pub mod Scaled

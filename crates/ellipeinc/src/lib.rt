@@ -12,12 +12,11 @@ use incomplete::PI;
 use incomplete::ROOT_OF_SCALE;
 use incomplete::SCALE;
 use incomplete::complete_e;
-use incomplete::cosine;
 use incomplete::folded;
 use incomplete::large;
+use incomplete::on_circle;
 use incomplete::sine;
-use rd::rd;
-use rf::rf;
+use rd::with_rf;
 ghost use mathlib.Core.Path.{_≡_};
 ghost use Rattle.ellipeinc.specs.Ellipeinc.{signOf, itselfOf, farOf, lineOf, ownOf, twoTermsOf, belowOf, aboveOf, recipeOf, withPeriodsOf, byRecipeOf, reducedOf, onSizeOf, ellipeincOf};
 
@@ -67,8 +66,9 @@ fn own(angle: f64, m: f64) -> bool
 fn two_terms(m: f64, c: f64, c1: f64) -> Term
     ensures { λ r. ⌜ r ≡ twoTermsOf m c c1 ⌝ }
 {
-    let f = rf(c1, c - m, c);
-    let d = rd(c1, c - m, c);
+    let both = with_rf(c1, c - m, c);
+    let f = both.first;
+    let d = both.second;
     Term {
         value: f.value - m * d.value / 3.0,
         met: f.met & d.met,
@@ -92,8 +92,9 @@ fn below(m: f64, c: f64, c1: f64) -> Term
 fn above(m: f64, c: f64, c1: f64) -> Term
     ensures { λ r. ⌜ r ≡ aboveOf m c c1 ⌝ }
 {
-    let f = rf(c1, c, c - m);
-    let d = rd(c1, c, c - m);
+    let both = with_rf(c1, c, c - m);
+    let f = both.first;
+    let d = both.second;
     let t = root::root(c1 / (c * (c - m)));
     Term {
         value: (1.0 - m) * f.value + m * (1.0 - m) * d.value / 3.0 + m * t,
@@ -129,11 +130,12 @@ fn with_periods(sign: f64, m: f64, mm: f64, met: bool, v: f64) -> Answer
 fn by_recipe(sign: f64, m: f64, f: Fold) -> Answer
     ensures { λ r. ⌜ r ≡ byRecipeOf sign m f ⌝ }
 {
-    let s = sine(f.angle);
+    let p = on_circle(f.angle);
+    let s = p.sine;
+    let c = p.cosine;
     if m * (s * s) >= 1.0 {
         return Answer::Refused(3);
     }
-    let c = cosine(f.angle);
     let e = recipe(m, s * s, c * c);
     with_periods(sign, m, f.mm, e.met, f.s * e.value)
 }

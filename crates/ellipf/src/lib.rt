@@ -12,9 +12,9 @@ use incomplete::FAR_OUT;
 use incomplete::HALF_PI;
 use incomplete::ROOT_OF_SCALE;
 use incomplete::SCALE;
-use incomplete::cosine;
 use incomplete::folded;
 use incomplete::large;
+use incomplete::on_circle;
 use incomplete::sine;
 use rf::rf;
 ghost use mathlib.Core.Path.{_≡_};
@@ -121,12 +121,12 @@ fn reduced(sign: f64, size: f64, m: f64) -> Answer
     ensures { λ r. ⌜ r ≡ reducedOf sign size m ⌝ }
 {
     let f = folded(size);
-    let s = sine(f.angle);
+    let p = on_circle(f.angle);
+    let s = p.sine;
     if m * (s * s) >= 1.0 {
         return Answer::Refused(3);
     }
-    let c = cosine(f.angle);
-    with_periods(sign, m, f.mm, recipe(f.s, m, s, c))
+    with_periods(sign, m, f.mm, recipe(f.s, m, s, p.cosine))
 }
 
 pub fn ellipf(phi: Amplitude, m: Parameter) -> Answer

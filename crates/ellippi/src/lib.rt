@@ -9,8 +9,8 @@ use answer::settled;
 use incomplete::HALF_PI;
 use incomplete::complete_e;
 use incomplete::complete_k;
-use rf::rf;
 use rj::rj;
+use rj::with_rf;
 ghost use mathlib.Core.Path.{_≡_};
 ghost use Rattle.ellippi.specs.Ellippi.{plainTerm, fromRestOf, principalOf, weightOf, bothBelowOf, firstBelowOf, firstZeroOf, diagonalOf, armsOf, ellippiOf};
 
@@ -25,8 +25,9 @@ fn plain_term(value: f64) -> Term
 fn from_rest(n: f64, m: f64, rest: f64) -> Term
     ensures { λ r. ⌜ r ≡ fromRestOf n m rest ⌝ }
 {
-    let f = rf(0.0, 1.0 - m, 1.0);
-    let j = rj(0.0, 1.0 - m, 1.0, rest);
+    let both = with_rf(0.0, 1.0 - m, 1.0, rest);
+    let f = both.first;
+    let j = both.second;
     Term {
         value: f.value + n * j.value / 3.0,
         met: f.met & j.met,

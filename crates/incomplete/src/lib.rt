@@ -42,10 +42,22 @@ pub fn sine(x: f64) -> f64
     answer::value(angle::sine(x))
 }
 
-pub fn cosine(x: f64) -> f64
-    ensures { λ r. ⌜ r ≡ valueOf (cosineOf x) ⌝ }
+// The point of the unit circle at an angle.
+pub struct Point {
+    pub sine: f64,
+    pub cosine: f64,
+}
+
+pub fn on_circle(x: f64) -> Point
+    ensures { λ r. ⌜ (r .sine ≡ valueOf (sineOf x)) × (r .cosine ≡ valueOf (cosineOf x)) ⌝ }
 {
-    answer::value(angle::cosine(x))
+    let both = angle::sine_cosine(x);
+    let s = both.sine;
+    let c = both.cosine;
+    Point {
+        sine: answer::value(s),
+        cosine: answer::value(c),
+    }
 }
 
 // |φ| = mm·π/2 + s·angle, angle within a quarter period.

@@ -67,11 +67,13 @@ pub fn rc(x: f64, y: f64) -> Outcome
     ensures { λ r. ⌜ r ≡ rcOf x y ⌝ }
 {
     let mut s = State::start(x, y);
-    for k in 0..64usize {
+    let mut k = 0usize;
+    while k < 64 {
         if s.stops() {
             return s.closed(k);
         }
         s = s.round();
+        k += 1;
     }
-    s.closed(64)
+    s.closed(k)
 }

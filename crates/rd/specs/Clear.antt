@@ -6,8 +6,8 @@ use lib.Ieee.Scale.{finite}
 use Rattle.laws.specs.Arithmetic.{_⊕_, _⊗_, _⊘_, _<·_, 3·0, 4·0, 5·0, 1024·0}
 use Rattle.laws.specs.Clear.{ClearSum, ClearProduct, ClearQuotient}
 use Rattle.root.specs.Root.{rootOf}
-use Rattle.carlson.specs.Clear.{spreadOf, ClearRoot, ClearQuarters, ClearDistances, ClearOffsets, ClearRun}
-use Rattle.carlson.specs.Series.{least}
+use Rattle.carlson.specs.Clear.{ClearRoot, ClearQuarters, ClearDistances, ClearOffsets, ClearRun}
+use Rattle.carlson.specs.Series.{spreadOf, least}
 use Rattle.rd.specs.declared.State.{State}
 use Rattle.rd.specs.Rd.{startOf, stopsOf, roundOf, seriesOf}
 

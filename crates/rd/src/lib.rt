@@ -2,12 +2,16 @@
 // A round takes L = √x√y + √y√z + √z√x, adds scale / (√z (z + L)) to the sum, makes each argument and their mean (itself + L) / 4 and quarters the scale.
 // The invariant is the value of RD at the start: scale · RD(x, y, z) + 3 · sum (DLMF 19.26.20).
 // The distance between the mean and the farthest argument is quartered; once it is below mean / 1024 the series that RJ shares closes.
+use carlson::Both;
 use carlson::Outcome;
+use carlson::Roots;
 use carlson::fifth;
 use carlson::larger;
+use carlson::roots_of;
 use carlson::trusted;
 ghost use mathlib.Core.Path.{_≡_};
-ghost use Rattle.rd.specs.Rd.{startOf, stopsOf, roundOf, closedOf, rdOf};
+ghost use Rattle.rf.specs.Rf.{rfOf};
+ghost use Rattle.rd.specs.Rd.{startOf, stopsOf, nextOf, roundOf, closedOf, finishOf, rdOf};
 
 // `scale` is 4^-k after k rounds, `sum` what the rounds have added.
 pub(crate) struct State {
@@ -46,13 +50,11 @@ impl State {
         self.distance < self.mean / 1024.0
     }
 
-    fn round(self) -> State
-        ensures { λ r. ⌜ r ≡ roundOf self ⌝ }
+    // A round, the roots being at hand.
+    fn next(self, w: Roots) -> State
+        ensures { λ r. ⌜ r ≡ nextOf self w ⌝ }
     {
-        let rx = root::root(self.x);
-        let ry = root::root(self.y);
-        let rz = root::root(self.z);
-        let l = rx * ry + ry * rz + rz * rx;
+        let l = w.spread;
         State {
             x: (self.x + l) / 4.0,
             y: (self.y + l) / 4.0,
@@ -60,8 +62,14 @@ impl State {
             mean: (self.mean + l) / 4.0,
             distance: self.distance / 4.0,
             scale: self.scale / 4.0,
-            sum: self.sum + self.scale / (rz * (self.z + l)),
+            sum: self.sum + self.scale / (w.z * (self.z + l)),
         }
+    }
+
+    fn round(self) -> State
+        ensures { λ r. ⌜ r ≡ roundOf self ⌝ }
+    {
+        self.next(roots_of(self.x, self.y, self.z))
     }
 
     fn closed(self, rounds: usize) -> Outcome
@@ -87,17 +95,48 @@ impl State {
             inside: 0,
         }
     }
+
+    // What is left of RD after k rounds.
+    fn finish(self, k: usize) -> Outcome
+        ensures { λ r. ⌜ r ≡ finishOf self k ⌝ }
+    {
+        let mut s = self;
+        let mut j = k;
+        while j < 64 {
+            if s.stops() {
+                return s.closed(j);
+            }
+            s = s.round();
+            j += 1;
+        }
+        s.closed(j)
+    }
 }
 
 pub fn rd(x: f64, y: f64, z: f64) -> Outcome
     ensures { λ r. ⌜ r ≡ rdOf x y z ⌝ }
 {
-    let mut s = State::start(x, y, z);
-    for k in 0..64usize {
-        if s.stops() {
-            return s.closed(k);
+    State::start(x, y, z).finish(0)
+}
+
+// RF and RD of the same arguments. Their rounds take the same roots: while neither stops they make them together, each root taken once; then each goes on alone.
+pub fn with_rf(x: f64, y: f64, z: f64) -> Both
+    ensures { λ r. ⌜ (r .first ≡ rfOf x y z) × (r .second ≡ rdOf x y z) ⌝ }
+{
+    let mut f = rf::State::start(x, y, z);
+    let mut d = State::start(x, y, z);
+    let mut k = 0usize;
+    while k < 64 {
+        if f.stops() | d.stops() {
+            break;
         }
-        s = s.round();
+        let w = roots_of(d.x, d.y, d.z);
+        f = f.next(w.spread);
+        d = d.next(w);
+        k += 1;
     }
-    s.closed(64)
+    Both {
+        first: f.finish(k),
+        second: d.finish(k),
+    }
 }

@@ -1,12 +1,12 @@
 -- RF(x, y, z) by duplication (01, module 5; DLMF 19.36(i); Carlson 1995), operation by operation. Definitions only.
-use Prim.Native.Nat.{ℕ}
+use Prim.Native.Nat.{ℕ, _-_}
 use mathlib.Core.Bool.{Bool}
 use lib.Ieee.{Float, neg}
 use Rattle.laws.specs.Arithmetic.{_⊕_, _⊖_, _⊗_, _⊘_, _<·_, 1·0, 3·0, 4·0, 10·0, 14·0, 24·0, 44·0, 512·0}
 use Rattle.root.specs.Root.{rootOf}
 use Rattle.whole.specs.Whole.{magnitudeOf}
-use Rattle.carlson.specs.Loop.{duplicated}
-use Rattle.carlson.specs.Series.{largerOf}
+use Rattle.carlson.specs.Loop.{iterate, duplicated}
+use Rattle.carlson.specs.Series.{largerOf, spreadOf}
 use Rattle.carlson.specs.declared.Outcome.{Outcome}
 use Rattle.rf.specs.declared.State.{State}
 
@@ -21,13 +21,11 @@ unfoldable pub stopsOf : State → Bool
 stopsOf s = s .distance <· s .mean ⊘ 512·0
 
 -- each becomes (itself + L) / 4 (DLMF 19.26.18, 19.26.19)
+unfoldable pub nextOf : State → Float → State
+nextOf s l = record { x = (s .x ⊕ l) ⊘ 4·0; y = (s .y ⊕ l) ⊘ 4·0; z = (s .z ⊕ l) ⊘ 4·0; mean = (s .mean ⊕ l) ⊘ 4·0; distance = s .distance ⊘ 4·0 }
+
 unfoldable pub roundOf : State → State
-roundOf s =
-    let rx = rootOf (s .x) in
-    let ry = rootOf (s .y) in
-    let rz = rootOf (s .z) in
-    let l = rx ⊗ ry ⊕ ry ⊗ rz ⊕ rz ⊗ rx in
-    record { x = (s .x ⊕ l) ⊘ 4·0; y = (s .y ⊕ l) ⊘ 4·0; z = (s .z ⊕ l) ⊘ 4·0; mean = (s .mean ⊕ l) ⊘ 4·0; distance = s .distance ⊘ 4·0 }
+roundOf s = nextOf s (spreadOf (s .x) (s .y) (s .z))
 
 -- the closing series, of fifth order (DLMF 19.36.1)
 unfoldable pub seriesOf : State → Float
@@ -41,6 +39,10 @@ seriesOf s =
 
 unfoldable pub closedOf : State → ℕ → Outcome
 closedOf s rounds = record { value = seriesOf s ⊘ rootOf (s .mean); met = stopsOf s; rounds = rounds; inside = 0 }
+
+-- the rest of the run, from s after k rounds
+unfoldable pub finishOf : State → ℕ → Outcome
+finishOf s k = iterate stopsOf roundOf closedOf (64 - k) k (stopsOf s) s
 
 unfoldable pub rfOf : Float → Float → Float → Outcome
 rfOf x y z = duplicated stopsOf roundOf closedOf (startOf x y z)

@@ -3,11 +3,12 @@
 // The distance between the mean and the farthest argument is quartered; once it is below mean / 512 the arguments are so near to their mean that a series of fifth order closes.
 use carlson::Outcome;
 use carlson::larger;
+use carlson::roots_of;
 ghost use mathlib.Core.Path.{_≡_};
-ghost use Rattle.rf.specs.Rf.{startOf, stopsOf, roundOf, closedOf, rfOf};
+ghost use Rattle.rf.specs.Rf.{startOf, stopsOf, nextOf, roundOf, closedOf, finishOf, rfOf};
 
-// Three arguments, their mean, and the distance that the stop test reads.
-pub(crate) struct State {
+// Three arguments, their mean, and the distance that the stop test reads. RD and RJ of the same arguments make RF's rounds with their own, which saves its roots.
+pub struct State {
     pub x: f64,
     pub y: f64,
     pub z: f64,
@@ -16,7 +17,7 @@ pub(crate) struct State {
 }
 
 impl State {
-    fn start(x: f64, y: f64, z: f64) -> State
+    pub fn start(x: f64, y: f64, z: f64) -> State
         ensures { λ r. ⌜ r ≡ startOf x y z ⌝ }
     {
         let mean = (x + y + z) / 3.0;
@@ -33,19 +34,16 @@ impl State {
         }
     }
 
-    fn stops(self) -> bool
+    pub fn stops(self) -> bool
         ensures { λ r. ⌜ r ≡ stopsOf self ⌝ }
     {
         self.distance < self.mean / 512.0
     }
 
-    fn round(self) -> State
-        ensures { λ r. ⌜ r ≡ roundOf self ⌝ }
+    // A round, L being at hand.
+    pub fn next(self, l: f64) -> State
+        ensures { λ r. ⌜ r ≡ nextOf self l ⌝ }
     {
-        let rx = root::root(self.x);
-        let ry = root::root(self.y);
-        let rz = root::root(self.z);
-        let l = rx * ry + ry * rz + rz * rx;
         State {
             x: (self.x + l) / 4.0,
             y: (self.y + l) / 4.0,
@@ -53,6 +51,13 @@ impl State {
             mean: (self.mean + l) / 4.0,
             distance: self.distance / 4.0,
         }
+    }
+
+    fn round(self) -> State
+        ensures { λ r. ⌜ r ≡ roundOf self ⌝ }
+    {
+        let w = roots_of(self.x, self.y, self.z);
+        self.next(w.spread)
     }
 
     fn closed(self, rounds: usize) -> Outcome
@@ -71,17 +76,26 @@ impl State {
             inside: 0,
         }
     }
+
+    // What is left of RF after k rounds.
+    pub fn finish(self, k: usize) -> Outcome
+        ensures { λ r. ⌜ r ≡ finishOf self k ⌝ }
+    {
+        let mut s = self;
+        let mut j = k;
+        while j < 64 {
+            if s.stops() {
+                return s.closed(j);
+            }
+            s = s.round();
+            j += 1;
+        }
+        s.closed(j)
+    }
 }
 
 pub fn rf(x: f64, y: f64, z: f64) -> Outcome
     ensures { λ r. ⌜ r ≡ rfOf x y z ⌝ }
 {
-    let mut s = State::start(x, y, z);
-    for k in 0..64usize {
-        if s.stops() {
-            return s.closed(k);
-        }
-        s = s.round();
-    }
-    s.closed(64)
+    State::start(x, y, z).finish(0)
 }

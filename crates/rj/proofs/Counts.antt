@@ -5,12 +5,13 @@ use native.Mathlib.Omega.{arith}
 use lib.Ieee.{Float}
 use Rattle.carlson.specs.declared.Outcome.{Outcome}
 use Rattle.rc.specs.Rc.{rcOf}
-use Rattle.rc.specs.laws.Counts.{few}
+use Rattle.rc.specs.laws.Counts.{rc-counts}
 use Rattle.rj.specs.Rj.{startOf, roundOf}
+use Rattle.rj.specs.laws.Counts as laws
 use Rattle.rj.specs.declared.State.{State}
 
 pub few-of : (x y : Float) (c : Outcome) → c ≡ rcOf x y → c .rounds ≤ 64
-few-of x y c e = subst (λ (u : Outcome). u .rounds ≤ 64) (sym e) (few x y)
+few-of x y c e = subst (λ (u : Outcome). u .rounds ≤ 64) (sym e) (rc-counts x y .most)
 
 -- the inner rounds of k rounds are at most 64 k
 pub first : (x y z p : Float) (s : State) → s ≡ startOf x y z p → s .inside ≤ 64 * 0
@@ -18,11 +19,7 @@ unfolding startOf
 first x y z p s e = subst (λ (u : State). u .inside ≤ 64 * 0) (sym e) (omega arith)
 
 pub grows : (s t : State) (k : ℕ) → s .inside ≤ 64 * k → t ≡ roundOf s → t .inside ≤ 64 * (k + 1)
-unfolding roundOf
-grows s t k h e = subst (λ (u : State). u .inside ≤ 64 * (k + 1)) (sym e) (adds _ _ _ h (few _ _))
-  where
-    adds : (a b k : ℕ) → a ≤ 64 * k → b ≤ 64 → a + b ≤ 64 * (k + 1)
-    adds a b k h f = omega arith
+grows s t k h e = subst (λ (u : State). u .inside ≤ 64 * (k + 1)) (sym e) (laws.grows s k h)
 
 pub room : (a k : ℕ) → a ≤ 64 * k → k < 64 → a ≤ 4032
 room a k h below = omega arith

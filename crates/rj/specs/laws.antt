@@ -1,3 +1,5 @@
 -- What is proved of the definition.
+pub mod Counts
 pub mod Unmet
 pub mod Corners
+pub mod Moves

@@ -4,13 +4,17 @@
 // The invariant is the value of RJ at the start: scale · RJ(x, y, z, p) + 6 · sum (DLMF 19.26.22, 19.26.23).
 // The distance between the mean and the farthest argument is quartered; once it is below mean / 1024 the series that RD shares closes.
 // RJ is met only where its own stop test and that of every RC inside are.
+use carlson::Both;
 use carlson::Outcome;
+use carlson::Roots;
 use carlson::fifth;
 use carlson::larger;
+use carlson::roots_of;
 use carlson::trusted;
 ghost use mathlib.Core.Path.{_≡_};
-ghost use Prim.Native.Nat.{_≤_};
-ghost use Rattle.rj.specs.Rj.{startOf, stopsOf, roundOf, closedOf, rjOf};
+ghost use Prim.Native.Nat.{_*_, _≤_};
+ghost use Rattle.rf.specs.Rf.{rfOf};
+ghost use Rattle.rj.specs.Rj.{startOf, stopsOf, nextOf, roundOf, closedOf, finishOf, rjOf};
 
 // As RD's; `inner` says whether every RC so far was met, `inside` counts their rounds.
 pub(crate) struct State {
@@ -57,17 +61,14 @@ impl State {
         self.distance < self.mean / 1024.0
     }
 
-    // 2√p(p + L)/d is Carlson's 1 + e, without the difference that cancels where e is near -1.
-    fn round(self) -> State
+    // A round, the roots of x, y and z being at hand. 2√p(p + L)/d is Carlson's 1 + e, without the difference that cancels where e is near -1.
+    fn next(self, w: Roots) -> State
         requires { ⌜ self .inside ≤ 4032 ⌝ }
-        ensures { λ r. ⌜ r ≡ roundOf self ⌝ }
+        ensures { λ r. ⌜ r ≡ nextOf self w ⌝ }
     {
-        let rx = root::root(self.x);
-        let ry = root::root(self.y);
-        let rz = root::root(self.z);
+        let l = w.spread;
         let rp = root::root(self.p);
-        let l = rx * ry + ry * rz + rz * rx;
-        let d = (rp + rx) * (rp + ry) * (rp + rz);
+        let d = (rp + w.x) * (rp + w.y) * (rp + w.z);
         let inner = rc::rc(1.0, 2.0 * rp * (self.p + l) / d);
         State {
             x: (self.x + l) / 4.0,
@@ -81,6 +82,13 @@ impl State {
             inner: self.inner & inner.met,
             inside: self.inside + inner.rounds,
         }
+    }
+
+    fn round(self) -> State
+        requires { ⌜ self .inside ≤ 4032 ⌝ }
+        ensures { λ r. ⌜ r ≡ roundOf self ⌝ }
+    {
+        self.next(roots_of(self.x, self.y, self.z))
     }
 
     fn closed(self, rounds: usize) -> Outcome
@@ -105,17 +113,49 @@ impl State {
             inside: self.inside,
         }
     }
+
+    // What is left of RJ after k rounds.
+    fn finish(self, k: usize) -> Outcome
+        requires { ⌜ self .inside ≤ 64 * k ⌝ }
+        ensures { λ r. ⌜ r ≡ finishOf self k ⌝ }
+    {
+        let mut s = self;
+        let mut j = k;
+        while j < 64 {
+            if s.stops() {
+                return s.closed(j);
+            }
+            s = s.round();
+            j += 1;
+        }
+        s.closed(j)
+    }
 }
 
 pub fn rj(x: f64, y: f64, z: f64, p: f64) -> Outcome
     ensures { λ r. ⌜ r ≡ rjOf x y z p ⌝ }
 {
-    let mut s = State::start(x, y, z, p);
-    for k in 0..64usize {
-        if s.stops() {
-            return s.closed(k);
+    State::start(x, y, z, p).finish(0)
+}
+
+// RF and RJ of the same x, y and z. Their rounds take the same roots: while neither stops they make them together, each root taken once; then each goes on alone.
+pub fn with_rf(x: f64, y: f64, z: f64, p: f64) -> Both
+    ensures { λ r. ⌜ (r .first ≡ rfOf x y z) × (r .second ≡ rjOf x y z p) ⌝ }
+{
+    let mut f = rf::State::start(x, y, z);
+    let mut j = State::start(x, y, z, p);
+    let mut k = 0usize;
+    while k < 64 {
+        if f.stops() | j.stops() {
+            break;
         }
-        s = s.round();
+        let w = roots_of(j.x, j.y, j.z);
+        f = f.next(w.spread);
+        j = j.next(w);
+        k += 1;
     }
-    s.closed(64)
+    Both {
+        first: f.finish(k),
+        second: j.finish(k),
+    }
 }

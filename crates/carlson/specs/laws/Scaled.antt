@@ -12,9 +12,9 @@ use Rattle.root.specs.laws.Scaled.{times-root}
 use Rattle.whole.specs.Whole.{magnitudeOf}
 use Rattle.whole.specs.laws.Magnitude.{magnitude-value}
 use Rattle.carlson.specs.Loop.{iterate, duplicated}
-use Rattle.carlson.specs.Series.{largerOf}
+use Rattle.carlson.specs.Series.{largerOf, spreadOf}
 use Rattle.carlson.specs.declared.Outcome.{Outcome}
-use Rattle.carlson.specs.Clear.{spreadOf, ClearSpread, ClearQuarter, ClearDistances, ClearRun}
+use Rattle.carlson.specs.Clear.{ClearSpread, ClearQuarter, ClearDistances, ClearRun}
 
 pub times-magnitude : {i j : ℕ} {x x' : Float} → Times i j x x' → Times i j (magnitudeOf x) (magnitudeOf x')
 times-magnitude {i} {j} {x} {x'} t = record {

@@ -1,6 +1,6 @@
 -- What infinite and NaN arguments do: the mean is infinite or NaN, so is every distance, and no quarter of it is below anything. The stop test is never met: refusal 5. Assumes nothing.
 use mathlib.Core.Path.{_≡_, refl}
-use Prim.Native.Nat.{ℕ, zero, suc, _+_}
+use Prim.Native.Nat.{ℕ}
 use mathlib.Core.Bool.{Bool, true, false, not, cond, _&&_, Bool·beq}
 use lib.Dec.{T, eqb}
 use lib.IntN.{ℤ}
@@ -10,6 +10,7 @@ use Rattle.laws.specs.Arithmetic.{_⊕_, _⊖_, _⊗_, _⊘_, _<·_, 4·0}
 use Rattle.whole.specs.Whole.{magnitudeOf}
 use Rattle.carlson.specs.Loop.{iterate, duplicated}
 use Rattle.carlson.specs.Series.{largerOf}
+use Rattle.carlson.specs.laws.Duplication.{along}
 use Rattle.carlson.specs.declared.Outcome.{Outcome}
 
 -- ---- a sum, and its quotient, with an infinity or a NaN in it
@@ -99,14 +100,11 @@ far-below (inf false) (fin t n d) h = refl
 pub far-apart : (mean x : Float) → Lost (finite mean) → T (far (magnitudeOf (mean ⊖ x)))
 far-apart mean x h = far-magnitude (mean ⊖ x) (lost-sub mean x h)
 
--- ---- the loop, argued once: what keeps an outcome from being met, and stays
+-- ---- the loop: what keeps an outcome from being met, and stays
 module _ {S : Type 0} (stops : S → Bool) (round : S → S) (closed : S → ℕ → Outcome) (P : S → Type 0)
     (stays : (s : S) → P s → P (round s)) (ends : (s : S) (k : ℕ) → P s → closed s k .met ≡ false) where
   pub unmet-from : (n k : ℕ) (b : Bool) (s : S) → P s → iterate stops round closed n k b s .met ≡ false
-  unfolding iterate
-  unmet-from zero k b s p = ends s k p
-  unmet-from (suc n) k true s p = ends s k p
-  unmet-from (suc n) k false s p = unmet-from n (k + 1) (stops (round s)) (round s) (stays s p)
+  unmet-from = along stops round closed (λ s k. P s) (λ o. o .met ≡ false) (λ s k p. stays s p) ends
 
   pub unmet : (s : S) → P s → duplicated stops round closed s .met ≡ false
   unfolding duplicated

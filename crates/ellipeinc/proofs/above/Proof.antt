@@ -8,7 +8,8 @@ returns : tie.Need-returns
 unfolding aboveOf
 returns c =
     let t = c .before .before .before .before in
-    rw (t .root .ensures, t .before .rd .ensures, t .before .before .rf .ensures)
+    let both = t .before .before .before .with-rf .ensures in
+    rw (t .root .ensures, both .0, both .1)
 
 pub above-spec : {M : Type 1} → statement M
-above-spec = tie.close (tie.spec (λ c κs. search needs) (λ c κs. search needs) (λ c κs. search needs) returns)
+above-spec = tie.close (tie.spec (λ c κs. search needs) (λ c κs. search needs) returns)

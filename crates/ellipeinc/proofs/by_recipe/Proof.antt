@@ -8,14 +8,14 @@ use Rattle.ellipeinc.proofs.by_recipe.Tie as tie
 
 returns : tie.Need-returns
 unfolding byRecipeOf
-returns c = rw (← c .before .sine .ensures) (held _ _ (c .if1 .taken) refl)
+returns c = rw (← c .before .on-circle .ensures .0) (held _ _ (c .if1 .taken) refl)
 
 returns-2 : tie.Need-returns-2
 unfolding byRecipeOf
 returns-2 c =
     let k = c .before .before .before in
-    let s = k .before .before in
-    rw (← s .before .sine .ensures, ← k .before .cosine .ensures, ← k .recipe .ensures) (passed _ _ (s .if1 .left) (c .with-periods .ensures))
+    let p = k .before .before .on-circle .ensures in
+    rw (← p .0, ← p .1, ← k .recipe .ensures) (passed _ _ (k .before .if1 .left) (c .with-periods .ensures))
 
 pub by-recipe-spec : {M : Type 1} → statement M
-by-recipe-spec = tie.close (tie.spec (λ c κs. search needs) returns (λ c κs. search needs) (λ c κs. search needs) (λ c κs. search needs) returns-2)
+by-recipe-spec = tie.close (tie.spec (λ c κs. search needs) returns (λ c κs. search needs) (λ c κs. search needs) returns-2)

@@ -7,8 +7,8 @@ use Rattle.ellipeinc.proofs.two_terms.Tie as tie
 returns : tie.Need-returns
 unfolding twoTermsOf
 returns c =
-    let d = c .before .before .before .before in
-    rw (d .rd .ensures, d .before .rf .ensures)
+    let both = c .before .before .before .before .before .before .with-rf .ensures in
+    rw (both .0, both .1)
 
 pub two-terms-spec : {M : Type 1} → statement M
-two-terms-spec = tie.close (tie.spec (λ c κs. search needs) (λ c κs. search needs) returns)
+two-terms-spec = tie.close (tie.spec (λ c κs. search needs) returns)

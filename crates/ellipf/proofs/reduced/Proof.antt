@@ -8,14 +8,14 @@ use Rattle.ellipf.proofs.reduced.Tie as tie
 
 returns : tie.Need-returns
 unfolding reducedOf
-returns c = rw (← c .before .before .folded .ensures, ← c .before .sine .ensures) (held _ _ (c .if1 .taken) refl)
+returns c = rw (← c .before .before .folded .ensures, ← c .before .on-circle .ensures .0) (held _ _ (c .if1 .taken) refl)
 
 returns-2 : tie.Need-returns-2
 unfolding reducedOf
 returns-2 c =
-    let k = c .before .before in
-    let t = k .before in
-    rw (← t .before .before .folded .ensures, ← t .before .sine .ensures, ← k .cosine .ensures, ← c .before .recipe .ensures) (passed _ _ (t .if1 .left) (c .with-periods .ensures))
+    let t = c .before .before in
+    let p = t .before .on-circle .ensures in
+    rw (← t .before .before .folded .ensures, ← p .0, ← p .1, ← c .before .recipe .ensures) (passed _ _ (t .if1 .left) (c .with-periods .ensures))
 
 pub reduced-spec : {M : Type 1} → statement M
-reduced-spec = tie.close (tie.spec (λ c κs. search needs) (λ c κs. search needs) returns (λ c κs. search needs) (λ c κs. search needs) (λ c κs. search needs) returns-2)
+reduced-spec = tie.close (tie.spec (λ c κs. search needs) (λ c κs. search needs) returns (λ c κs. search needs) (λ c κs. search needs) returns-2)

@@ -46,7 +46,7 @@ pub record EllipfCorners : Type 0 where
   pub eighth : ellipfOf (float 0x3fe9_21fb_5444_2d18) ½ ≡ One (float 0x3fea_6ebd_0a8c_dc3a)
 
 pub ellipf-corners : EllipfCorners
-unfolding largeOf ellipfOf signumOf poleOf farOf middleOf recipeOf closedOf withPeriodsOf reducedOf foldedOf infiniteOf finiteOf settledOf handedOf valueOf sineOf sineAt cosineOf cosineAt upToFour squareOf alternatingOf kUncheckedOf kMeanOf lastMeansOf kFromOf nextOf goesOn goesOnOf arithmeticOf geometricOf Mean.iterate Loop.iterate Loop.duplicated largerOf Rf.rfOf Rf.startOf Rf.stopsOf Rf.roundOf Rf.closedOf Rf.seriesOf rootOf magnitudeOf roundOf dec ofBits add sub sum mul div rem neg lt le eq ne round
+unfolding largeOf ellipfOf signumOf poleOf farOf middleOf recipeOf closedOf withPeriodsOf reducedOf foldedOf infiniteOf finiteOf settledOf handedOf valueOf sineOf sineAt cosineOf cosineAt upToFour squareOf alternatingOf kUncheckedOf kMeanOf lastMeansOf kFromOf nextOf goesOn goesOnOf arithmeticOf geometricOf Mean.iterate Loop.iterate Loop.duplicated largerOf Rf.rfOf Rf.startOf Rf.stopsOf Rf.nextOf Rf.roundOf Rf.closedOf Rf.seriesOf rootOf magnitudeOf roundOf dec ofBits add sub sum mul div rem neg lt le eq ne round
 ellipf-corners =
     record {
       nan-amplitude = refl;

@@ -7,8 +7,8 @@ use Rattle.ellippi.proofs.from_rest.Tie as tie
 returns : tie.Need-returns
 unfolding fromRestOf
 returns c =
-    let j = c .before .before .before .before in
-    rw (j .rj .ensures, j .before .rf .ensures)
+    let both = c .before .before .before .before .before .before .with-rf .ensures in
+    rw (both .0, both .1)
 
 pub from-rest-spec : {M : Type 1} → statement M
-from-rest-spec = tie.close (tie.spec (λ c κs. search needs) (λ c κs. search needs) returns)
+from-rest-spec = tie.close (tie.spec (λ c κs. search needs) returns)

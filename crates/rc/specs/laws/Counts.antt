@@ -1,10 +1,9 @@
--- RC makes at most 64 rounds, whatever its arguments. Assumes nothing.
+-- RC's number of rounds is the written stop test's, whatever the arguments. Assumes nothing.
 use mathlib.Core.Path.{refl}
-use Prim.Native.Nat.{_≤_}
 use lib.Ieee.{Float}
-use Rattle.carlson.specs.laws.Counts.{at-most-64}
+use Rattle.carlson.specs.laws.Counts.{Counts, counts}
 use Rattle.rc.specs.Rc.{startOf, stopsOf, roundOf, closedOf, rcOf}
 
-pub few : (x y : Float) → rcOf x y .rounds ≤ 64
+pub rc-counts : (x y : Float) → Counts stopsOf roundOf (startOf x y) (rcOf x y .rounds)
 unfolding rcOf closedOf
-few x y = at-most-64 stopsOf roundOf closedOf (λ s k. refl) (startOf x y)
+rc-counts x y = counts stopsOf roundOf closedOf (λ s k. refl) (startOf x y)

@@ -1,31 +1,13 @@
--- The loop of Duplication, at this recipe's state.
-use native.Mathlib.Omega.{arith}
-use Prim.Native.Nat.{_-_}
+-- From the start, no round being made.
+use Rattle.carlson.specs.Loop.{duplicated}
+use Rattle.rd.specs.Rd.{finishOf, rdOf}
 use borrow.Author.Needs.{needs}
-use Rattle.rd.specs.Rd.{startOf, stopsOf, roundOf, closedOf, rdOf}
-use Rattle.carlson.specs.laws.Duplication.{Holds, at-start, at-next, where-met, where-spent}
 use Rattle.rd.proofs.rd.Statement.{statement}
 use Rattle.rd.proofs.rd.Tie as tie
 
-abbrev Inv-loop : tie.InvT-loop
-Inv-loop x y z s₀ k₀ s k = Holds stopsOf roundOf closedOf (startOf x y z) s k
-
-abbrev μ-loop : tie.MeasureT-loop
-μ-loop x y z s₀ k₀ s k = 64 - k
-
-loop-holds : tie.Need-loop-holds Inv-loop μ-loop
-loop-holds c = at-start stopsOf roundOf closedOf _ _ (c .start .ensures)
-
-returns : tie.Need-returns Inv-loop μ-loop
-unfolding rdOf
-returns c = where-met stopsOf roundOf closedOf _ _ _ _ _ (c .before .before .stops .ensures) (c .before .if1 .taken) (c .closed .ensures) (c .before .before .before .before .loop .inv)
-
-loop-again : tie.Need-loop-again Inv-loop μ-loop
-loop-again c = at-next stopsOf roundOf closedOf _ _ _ _ _ (c .before .before .before .loop-test .taken) (c .before .before .stops .ensures) (c .before .if1 .left) (c .round .ensures) (c .before .before .before .before .loop .inv)
-
-returns-2 : tie.Need-returns-2 Inv-loop μ-loop
-unfolding rdOf
-returns-2 c = where-spent stopsOf roundOf closedOf _ _ _ _ (c .before .loop-test .left) (c .closed2 .ensures) (c .before .before .loop .inv)
+returns : tie.Need-returns
+unfolding duplicated finishOf rdOf
+returns c = rw (← c .before .start .ensures) (c .finish .ensures)
 
 pub rd-spec : {M : Type 1} → statement M
-rd-spec = tie.close (tie.spec Inv-loop μ-loop (λ c κs. search needs) loop-holds (λ c κs. search needs) (λ c κs. search needs) returns (λ c κs. search needs) (λ c. omega arith) (λ c. omega arith) loop-again (λ c κs. search needs) returns-2)
+rd-spec = tie.close (tie.spec (λ c κs. search needs) (λ c κs. search needs) returns)

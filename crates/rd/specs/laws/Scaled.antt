@@ -9,10 +9,10 @@ use lib.Ieee.Fits.{add-fits}
 use Rattle.laws.specs.Arithmetic.{_⊗_, _<·_, 3·0, 4·0, 5·0, 8·0, 1024·0}
 use Rattle.laws.specs.laws.Scaled.{Times, times-as, times-own, times-zero, times-add, times-mul, times-div, times-over, times-by, times-lt, multiplied}
 use Rattle.root.specs.laws.Scaled.{times-root}
-use Rattle.carlson.specs.Series.{fifthOf, trustedOf, least}
+use Rattle.carlson.specs.Series.{rootsOf, fifthOf, trustedOf, least}
 use Rattle.carlson.specs.laws.Scaled.{times-distance, times-spread, times-quarter, offset-same, Over, Divided, over-divided, scaled-run}
 use Rattle.rd.specs.declared.State.{State}
-use Rattle.rd.specs.Rd.{startOf, stopsOf, roundOf, seriesOf, closedOf, rdOf}
+use Rattle.rd.specs.Rd.{startOf, stopsOf, nextOf, roundOf, seriesOf, closedOf, rdOf}
 use Rattle.rd.specs.Clear.{ClearTest, ClearStart, ClearRound, lastOf, ClearClosing, ClearRd}
 
 -- the arguments of t are 4^i times those of s, the scale is the same, and the sum is over 8^i
@@ -30,7 +30,7 @@ unfolding stopsOf ofBits fits
 test-same i s t a c d = times-lt (a .distance) (times-over 1024·0 tt tt (a .mean) c d)
 
 rounded : (i : ℕ) (s t : State) → Alike i s t → ClearRound s → ClearRound t → Alike i (roundOf s) (roundOf t)
-unfolding roundOf ofBits fits
+unfolding nextOf roundOf rootsOf ofBits fits
 rounded i s t a c d =
     let p = c .quarters in
     let q = d .quarters in

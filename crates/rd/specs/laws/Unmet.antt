@@ -6,11 +6,11 @@ use lib.Ieee.{Float, ofBits}
 use lib.Ieee.Scale.{finite}
 use Rattle.laws.specs.Arithmetic.{_⊕_, _⊗_, 3·0}
 use Rattle.carlson.specs.laws.Unmet.{Lost, lost-mul, lost-div, both, three, far, far-larger, far-quarter, far-below, far-apart, unmet}
-use Rattle.rd.specs.Rd.{startOf, stopsOf, roundOf, closedOf, rdOf}
+use Rattle.rd.specs.Rd.{startOf, stopsOf, nextOf, roundOf, closedOf, rdOf}
 
 -- the mean is infinite or NaN: from an argument, or by overflow
 pub rd-lost : (x y z : Float) → Lost (finite (startOf x y z .mean)) → rdOf x y z .met ≡ false
-unfolding rdOf startOf stopsOf roundOf closedOf
+unfolding rdOf startOf stopsOf nextOf roundOf closedOf
 rd-lost x y z h = unmet stopsOf roundOf closedOf (λ s. T (far (s .distance))) (λ s p. far-quarter _ p) (λ s k p. far-below _ _ p) (startOf x y z) (far-larger _ _ (far-larger _ _ (far-apart _ x h) (far-apart _ y h)) (far-apart _ z h))
 
 -- an argument is infinite or NaN

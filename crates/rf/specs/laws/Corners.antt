@@ -7,7 +7,7 @@ use Rattle.root.specs.Root.{rootOf}
 use Rattle.whole.specs.Whole.{magnitudeOf}
 use Rattle.carlson.specs.Loop.{iterate, duplicated}
 use Rattle.carlson.specs.Series.{largerOf}
-use Rattle.rf.specs.Rf.{startOf, stopsOf, roundOf, closedOf, seriesOf, rfOf}
+use Rattle.rf.specs.Rf.{startOf, stopsOf, nextOf, roundOf, closedOf, seriesOf, rfOf}
 
 pub record Corners : Type 0 where
   -- RF(1, 2, 0) = 1.3110287771461
@@ -16,5 +16,5 @@ pub record Corners : Type 0 where
   pub two-three-four : rfOf 2·0 3·0 4·0 ≡ record { value = float 0x3fe2_b0ce_7fe5_0f42; met = true; rounds = 4; inside = 0 }
 
 pub corners : Corners
-unfolding rfOf startOf stopsOf roundOf closedOf seriesOf largerOf iterate duplicated rootOf magnitudeOf ofBits neg add sub sum mul div lt le eq ne round
+unfolding rfOf startOf stopsOf nextOf roundOf closedOf seriesOf largerOf iterate duplicated rootOf magnitudeOf ofBits neg add sub sum mul div lt le eq ne round
 corners = record { one-two-zero = refl; two-three-four = refl }

@@ -5,14 +5,14 @@ use Rattle.root.specs.Root.{rootOf}
 use Rattle.whole.specs.Whole.{magnitudeOf}
 use Rattle.carlson.specs.Series.{largerOf}
 use Rattle.carlson.specs.Clear.{ClearRun}
-use Rattle.rf.specs.Rf.{startOf, stopsOf, roundOf, seriesOf}
+use Rattle.rf.specs.Rf.{startOf, stopsOf, nextOf, roundOf, seriesOf}
 use Rattle.rf.specs.Clear.{ClearRf}
 
 abbrev z : Float
 z = float 0x3ff0_2000_0000_0000
 
 pub clear-points : ClearRf 1·0 1·0 z × ClearRf (4·0 ⊗ 1·0) (4·0 ⊗ 1·0) (4·0 ⊗ z)
-unfolding ClearRun startOf stopsOf roundOf seriesOf largerOf magnitudeOf rootOf add sub sum mul div neg lt round ofBits
+unfolding ClearRun startOf stopsOf nextOf roundOf seriesOf largerOf magnitudeOf rootOf add sub sum mul div neg lt round ofBits
 clear-points = (
   record {
     start = search;

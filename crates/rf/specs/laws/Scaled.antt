@@ -11,7 +11,7 @@ use Rattle.root.specs.Root.{rootOf}
 use Rattle.root.specs.laws.Scaled.{times-root}
 use Rattle.carlson.specs.laws.Scaled.{times-distance, times-spread, times-quarter, offset-same, Over, Divided, over-divided, scaled-run}
 use Rattle.rf.specs.declared.State.{State}
-use Rattle.rf.specs.Rf.{startOf, stopsOf, roundOf, seriesOf, closedOf, rfOf}
+use Rattle.rf.specs.Rf.{startOf, stopsOf, nextOf, roundOf, seriesOf, closedOf, rfOf}
 use Rattle.rf.specs.Clear.{ClearTest, ClearStart, ClearRound, ClearClosing, ClearRf}
 
 -- every number of t is 4^i times that of s
@@ -27,7 +27,7 @@ unfolding stopsOf ofBits fits
 test-same i s t a c d = times-lt (a .distance) (times-over 512·0 tt tt (a .mean) c d)
 
 rounded : (i : ℕ) (s t : State) → Alike i s t → ClearRound s → ClearRound t → Alike i (roundOf s) (roundOf t)
-unfolding roundOf ofBits fits
+unfolding nextOf roundOf ofBits fits
 rounded i s t a c d =
     let p = c .quarters in
     let q = d .quarters in

@@ -156,6 +156,10 @@ uint64_t sm_logarithm(uint64_t x);
    or, where out_length is not 2, gives 7 and writes nothing. Function 0 has two zeros for its answers. */
 uint8_t sm_evaluate(uint8_t function, uint64_t a, uint64_t b, uint64_t c, uint64_t *out, size_t out_length);
 
+/* How many rounds the recipes RF, RC, RD and RJ made for that answer, all calls together, those of RC inside RJ too: the work of functions 4 to 6. A refused
+   answer has its rounds too, and a recipe whose stop test was never met has 64. 0 where no recipe is asked: functions 0 to 3, and numbers above the last. */
+size_t sm_rounds(uint8_t function, uint64_t a, uint64_t b, uint64_t c);
+
 /* Makes the bytes, whatever they hold, a sheet of so many blank rows, which says 3. Gives 0; 11 for more than 1,024 rows; then 7 where the length is not
    SM_SHEET_BYTES(rows). */
 uint8_t sm_blank(uint8_t *sheet, size_t sheet_length, uint32_t rows);
@@ -201,6 +205,7 @@ uint8_t sm_total_refusal(const uint8_t *sheet, size_t sheet_length);
 #define sm_cosine(x) sm_cosine(SM_WHOLE(x))
 #define sm_logarithm(x) sm_logarithm(SM_WHOLE(x))
 #define sm_evaluate(function, a, b, c, out, out_length) sm_evaluate(function, SM_WHOLE(a), SM_WHOLE(b), SM_WHOLE(c), out, out_length)
+#define sm_rounds(function, a, b, c) sm_rounds(function, SM_WHOLE(a), SM_WHOLE(b), SM_WHOLE(c))
 #define sm_edit(sheet, sheet_length, row, function, a, b, c, times) \
     sm_edit(sheet, sheet_length, row, function, SM_WHOLE(a), SM_WHOLE(b), SM_WHOLE(c), times)
 #define sm_value(pattern) sm_value(SM_WHOLE(pattern))

@@ -114,6 +114,13 @@ static void functions(void)
     CHECK(evaluates(SM_ELLIPF, 0x4330000000000001 /* 2^52 + 1 */, MINUS, SM_NO_NUMBER, 0, 0));
     CHECK(evaluates(SM_LAST_FUNCTION + 1, 0, 0, SM_NO_SUCH_FUNCTION, 0, 0));
 
+    CHECK(sm_rounds(SM_ELLIPPI, 0x87b0000000000000 /* -2^-900 */, 0xea90000000000000 /* -2^682 */, 0) == 77); /* RJ has 13, an RC inside it 64 */
+    CHECK(evaluates(SM_ELLIPPI, 0x87b0000000000000, 0xea90000000000000, SM_NOT_SETTLED, 0, 0));
+    CHECK(sm_rounds(SM_ELLIPF, ONE, MINUS, 0) == 64 && sm_rounds(SM_ELLIPF, NOT_A_NUMBER, MINUS, 0) == 0);
+    for (uint8_t function = SM_BLANK; function <= SM_ELLIPKE; function++)
+        CHECK(sm_rounds(function, sm_pattern(0.25), sm_pattern(0.5), 0) == 0);
+    CHECK(sm_rounds(SM_LAST_FUNCTION + 1, sm_pattern(0.25), sm_pattern(0.5), 0) == 0);
+
     CHECK(sm_evaluate(SM_ELLIPK, 0, 0, 0, NULL, 0) == SM_NOT_A_SHEET);
     CHECK(sm_evaluate(SM_ELLIPK, 0, 0, 0, out, 1) == SM_NOT_A_SHEET);
     CHECK(sm_evaluate(SM_ELLIPK, 0, 0, 0, out, 3) == SM_NOT_A_SHEET);

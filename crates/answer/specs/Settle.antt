@@ -4,6 +4,7 @@ use lib.Ieee.{Float, nan, inf, fin}
 use Rattle.laws.specs.Ladder.{when_gives_else_}
 use Rattle.answer.specs.declared.Answer.{Answer}
 use Rattle.answer.specs.declared.Answer.the-variants.{One, Infinite, Refused}
+use Rattle.answer.specs.declared.Counted.{Counted}
 
 unfoldable pub infiniteOf : Float → Bool
 infiniteOf nan = false
@@ -27,3 +28,7 @@ unfoldable pub handedOf : Float → Answer
 handedOf nan = Refused 6
 handedOf (inf s) = Infinite s
 handedOf (fin s m e) = One (fin s m e)
+
+-- no recipe is asked: 0 rounds (02, [3])
+abbrev pub unaskedOf : Answer → Counted
+unaskedOf a = record { answer = a; rounds = 0 }

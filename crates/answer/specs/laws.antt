@@ -1,5 +1,6 @@
--- Of answers: sound ones, the tests that settle them, which a function may give, and those of an odd function.
+-- Of answers: sound ones, the tests that settle them, which a function may give, those of an odd function, and their rounds.
 pub mod Sound
 pub mod Tests
 pub mod Fair
 pub mod Odd
+pub mod Rounds

@@ -2,7 +2,7 @@
 ghost use mathlib.Core.Path.{_≡_};
 ghost use Rattle.answer.specs.Answer.{refusalOf, firstOf, secondOf, valueOf};
 ghost use Rattle.answer.specs.Numbers.{stored as Numbers·stored};
-ghost use Rattle.answer.specs.Settle.{infiniteOf, finiteOf, settledOf, handedOf};
+ghost use Rattle.answer.specs.Settle.{infiniteOf, finiteOf, settledOf, handedOf, unaskedOf};
 
 // The last function's number; above it is refusal 9.
 pub const LAST: u8 = 6;
@@ -40,6 +40,14 @@ pub struct Readout {
 pub struct Term {
     pub value: f64,
     pub met: bool,
+    // the rounds of all recipes asked, those of the RC calls inside RJ too
+    pub rounds: usize,
+}
+
+// An answer, and the rounds of all recipes that were asked for it.
+pub struct Counted {
+    pub answer: Answer,
+    pub rounds: usize,
 }
 
 // ±∞; true is -∞.
@@ -130,4 +138,11 @@ pub fn handed(v: f64) -> Answer
         return Answer::Infinite(v < 0.0);
     }
     Answer::One(v)
+}
+
+// An answer for which no recipe is asked.
+pub fn unasked(answer: Answer) -> Counted
+    ensures { λ r. ⌜ r ≡ unaskedOf answer ⌝ }
+{
+    Counted { answer, rounds: 0 }
 }

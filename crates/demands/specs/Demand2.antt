@@ -18,7 +18,7 @@ use Rattle.legendre.specs.Ellipe.{ellipeOf}
 use Rattle.legendre.specs.Ellipke.{ellipkeOf}
 use Rattle.legendre.specs.Promises.{Answers}
 use Rattle.legendre.specs.laws.Values.{ellipk-answers, ellipe-answers, ellipke-answers}
-use Rattle.functions.specs.Functions.{evaluateOf}
+use Rattle.functions.specs.Functions.{countedOf, evaluateOf}
 
 pub record Demand2 : Type 0 where
   -- the root of a positive f64 is the exact root rounded once, ties to even: `Between` holds it to the nearest by squares
@@ -38,15 +38,15 @@ pub record Demand2 : Type 0 where
 
 module _ (a b c : ℕ) where
   first-is : evaluateOf 1 a b c ≡ ellipkOf (float a)
-  unfolding evaluateOf
+  unfolding evaluateOf countedOf
   first-is = refl
 
   second-is : evaluateOf 2 a b c ≡ ellipeOf (float a)
-  unfolding evaluateOf
+  unfolding evaluateOf countedOf
   second-is = refl
 
   both-is : evaluateOf 3 a b c ≡ ellipkeOf (float a)
-  unfolding evaluateOf
+  unfolding evaluateOf countedOf
   both-is = refl
 
 pub demand-2 : Demand2

@@ -2,10 +2,12 @@
 // Domain: m sin²φ < 1; m ≤ 1 where φ reaches beyond a quarter period. Steps are 01's, with 02's [7]; order of operations: ellipeinc.rs.
 use answer::Amplitude;
 use answer::Answer;
+use answer::Counted;
 use answer::Parameter;
 use answer::Term;
 use answer::handed;
 use answer::infinity;
+use answer::unasked;
 use incomplete::FAR_OUT;
 use incomplete::Fold;
 use incomplete::PI;
@@ -18,7 +20,7 @@ use incomplete::on_circle;
 use incomplete::sine;
 use rd::with_rf;
 ghost use mathlib.Core.Path.{_≡_};
-ghost use Rattle.ellipeinc.specs.Ellipeinc.{signOf, itselfOf, farOf, lineOf, ownOf, twoTermsOf, belowOf, aboveOf, recipeOf, withPeriodsOf, byRecipeOf, reducedOf, onSizeOf, ellipeincOf};
+ghost use Rattle.ellipeinc.specs.Ellipeinc.{signOf, itselfOf, farOf, lineOf, ownOf, twoTermsOf, belowOf, aboveOf, recipeOf, withPeriodsOf, byRecipeOf, reducedOf, onSizeOf, countedOf, ellipeincOf};
 
 // 2^12
 const CANCELLING: f64 = 4096.0;
@@ -72,6 +74,7 @@ fn two_terms(m: f64, c: f64, c1: f64) -> Term
     Term {
         value: f.value - m * d.value / 3.0,
         met: f.met & d.met,
+        rounds: f.rounds + d.rounds,
     }
 }
 
@@ -84,6 +87,7 @@ fn below(m: f64, c: f64, c1: f64) -> Term
         return Term {
             value: t.value / ROOT_OF_SCALE,
             met: t.met,
+            rounds: t.rounds,
         };
     }
     two_terms(m, c, c1)
@@ -99,6 +103,7 @@ fn above(m: f64, c: f64, c1: f64) -> Term
     Term {
         value: (1.0 - m) * f.value + m * (1.0 - m) * d.value / 3.0 + m * t,
         met: f.met & d.met,
+        rounds: f.rounds + d.rounds,
     }
 }
 
@@ -127,68 +132,78 @@ fn with_periods(sign: f64, m: f64, mm: f64, met: bool, v: f64) -> Answer
     handed(sign * v)
 }
 
-fn by_recipe(sign: f64, m: f64, f: Fold) -> Answer
+fn by_recipe(sign: f64, m: f64, f: Fold) -> Counted
     ensures { λ r. ⌜ r ≡ byRecipeOf sign m f ⌝ }
 {
     let p = on_circle(f.angle);
     let s = p.sine;
     let c = p.cosine;
     if m * (s * s) >= 1.0 {
-        return Answer::Refused(3);
+        return unasked(Answer::Refused(3));
     }
     let e = recipe(m, s * s, c * c);
-    with_periods(sign, m, f.mm, e.met, f.s * e.value)
+    Counted {
+        answer: with_periods(sign, m, f.mm, e.met, f.s * e.value),
+        rounds: e.rounds,
+    }
 }
 
-fn reduced(sign: f64, size: f64, m: f64) -> Answer
+fn reduced(sign: f64, size: f64, m: f64) -> Counted
     ensures { λ r. ⌜ r ≡ reducedOf sign size m ⌝ }
 {
     let f = folded(size);
     if own(f.angle, m) {
-        return with_periods(sign, m, f.mm, true, f.s * f.angle);
+        return unasked(with_periods(sign, m, f.mm, true, f.s * f.angle));
     }
     by_recipe(sign, m, f)
 }
 
 // Steps 5, 7 and 8.
-fn on_size(sign: f64, size: f64, m: f64) -> Answer
+fn on_size(sign: f64, size: f64, m: f64) -> Counted
     ensures { λ r. ⌜ r ≡ onSizeOf sign size m ⌝ }
 {
     if size > FAR_OUT {
-        return far(sign, size, m);
+        return unasked(far(sign, size, m));
     }
     if m == 1.0 {
-        return line(sign, size);
+        return unasked(line(sign, size));
     }
     reduced(sign, size, m)
 }
 
-pub fn ellipeinc(phi: Amplitude, m: Parameter) -> Answer
-    ensures { λ r. ⌜ r ≡ ellipeincOf (phi .0) (m .0) ⌝ }
+// The answer, and the rounds of all recipes asked for it.
+pub fn counted(phi: Amplitude, m: Parameter) -> Counted
+    ensures { λ r. ⌜ r ≡ countedOf (phi .0) (m .0) ⌝ }
 {
     let phi = phi.0;
     let m = m.0;
     let size = whole::magnitude(phi);
     if phi == 0.0 {
-        return Answer::One(0.0);
+        return unasked(Answer::One(0.0));
     }
     if m == 0.0 {
-        return itself(phi);
+        return unasked(itself(phi));
     }
     let top = infinity(false);
     if size == top {
-        return Answer::Infinite(phi < 0.0);
+        return unasked(Answer::Infinite(phi < 0.0));
     }
     if (phi != phi) & (m > 1.0) {
-        return Answer::Refused(2);
+        return unasked(Answer::Refused(2));
     }
     if (phi != phi) | (m != m) {
-        return Answer::Refused(1);
+        return unasked(Answer::Refused(1));
     }
     let bottom = infinity(true);
     if m == bottom {
-        return Answer::Infinite(phi < 0.0);
+        return unasked(Answer::Infinite(phi < 0.0));
     }
     let sign = sign(phi);
     on_size(sign, size, m)
+}
+
+pub fn ellipeinc(phi: Amplitude, m: Parameter) -> Answer
+    ensures { λ r. ⌜ r ≡ ellipeincOf (phi .0) (m .0) ⌝ }
+{
+    counted(phi, m).answer
 }

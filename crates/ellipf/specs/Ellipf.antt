@@ -1,4 +1,4 @@
--- ellipf (02, [1]): the operations of ellipf.rs, in its order. Definitions only.
+-- ellipf (02, [1]): the operations of ellipf.rs, in its order, and the rounds of the recipe that it asks ([3]). Definitions only.
 use mathlib.Core.Bool.{Bool, cond, not, _||_, _&&_}
 use lib.Ieee.{Float, nan, inf, fin, neg}
 use Rattle.laws.specs.Arithmetic.{_⊕_, _⊖_, _⊗_, _⊘_, _<·_, _≤·_, _=·_, _≠·_, dec, +0, +∞, -∞, π/2, 1·0}
@@ -11,7 +11,8 @@ use Rattle.angle.specs.Sine.{sineOf}
 use Rattle.angle.specs.Cosine.{cosineOf}
 use Rattle.legendre.specs.Ellipk.{kUncheckedOf}
 use Rattle.rf.specs.Rf.{rfOf}
-use Rattle.answer.specs.Settle.{infiniteOf, settledOf, handedOf}
+use Rattle.answer.specs.Settle.{infiniteOf, settledOf, handedOf, unaskedOf}
+use Rattle.answer.specs.declared.Counted.{Counted}
 use Rattle.incomplete.specs.Period.{far-out, foldedOf}
 use Rattle.incomplete.specs.Scaling.{λ4, √λ, largeOf}
 use Rattle.answer.specs.declared.Term.{Term}
@@ -51,9 +52,9 @@ recipeOf s m sine cosine =
     let y = middleOf m c c1 in
     let plain = rfOf c1 y c in
     let scaled = rfOf (c1 ⊘ λ4) (y ⊘ λ4) (c ⊘ λ4) in
-    when infiniteOf c gives record { value = s ⊗ sine ⊗ tiny .value; met = tiny .met } else
-    when largeOf m c gives record { value = s ⊗ (scaled .value ⊘ √λ); met = scaled .met } else
-    record { value = s ⊗ plain .value; met = plain .met }
+    when infiniteOf c gives record { value = s ⊗ sine ⊗ tiny .value; met = tiny .met; rounds = tiny .rounds } else
+    when largeOf m c gives record { value = s ⊗ (scaled .value ⊘ √λ); met = scaled .met; rounds = scaled .rounds } else
+    record { value = s ⊗ plain .value; met = plain .met; rounds = plain .rounds }
 
 -- F(φ, -∞) = 0 where there is no finite answer; else 5, and then 6
 unfoldable pub closedOf : Float → Bool → Float → Answer
@@ -67,18 +68,23 @@ withPeriodsOf sign m mm t =
     when mm ≠· +0 gives closedOf m (t .met) (sign ⊗ (t .value ⊕ mm ⊗ kUncheckedOf m)) else
     closedOf m (t .met) (sign ⊗ t .value)
 
-unfoldable pub reducedOf : Float → Float → Float → Answer
+unfoldable pub reducedOf : Float → Float → Float → Counted
 reducedOf sign size m =
     let f = foldedOf size in
     let sine = valueOf (sineOf (f .angle)) in
     let cosine = valueOf (cosineOf (f .angle)) in
-    when 1·0 ≤· m ⊗ (sine ⊗ sine) gives Refused 3 else
-    withPeriodsOf sign m (f .mm) (recipeOf (f .s) m sine cosine)
+    let t = recipeOf (f .s) m sine cosine in
+    when 1·0 ≤· m ⊗ (sine ⊗ sine) gives unaskedOf (Refused 3) else
+    record { answer = withPeriodsOf sign m (f .mm) t; rounds = t .rounds }
+
+-- the answer, and the rounds of the recipe asked for it
+unfoldable pub countedOf : Float → Float → Counted
+countedOf φ m =
+    when φ ≠· φ || m ≠· m gives unaskedOf (Refused 1) else
+    when m =· +0 gives unaskedOf (handedOf φ) else
+    when poleOf φ m gives unaskedOf (Refused 3) else
+    when far-out <· magnitudeOf φ gives unaskedOf (farOf (signumOf φ) (magnitudeOf φ) m) else
+    reducedOf (signumOf φ) (magnitudeOf φ) m
 
 unfoldable pub ellipfOf : Float → Float → Answer
-ellipfOf φ m =
-    when φ ≠· φ || m ≠· m gives Refused 1 else
-    when m =· +0 gives handedOf φ else
-    when poleOf φ m gives Refused 3 else
-    when far-out <· magnitudeOf φ gives farOf (signumOf φ) (magnitudeOf φ) m else
-    reducedOf (signumOf φ) (magnitudeOf φ) m
+ellipfOf φ m = countedOf φ m .answer

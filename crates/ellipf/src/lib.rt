@@ -2,12 +2,14 @@
 // Domain: m sin²φ < 1; m < 1 where |φ| reaches π/2. Branches and order of operations: ellipf.rs.
 use answer::Amplitude;
 use answer::Answer;
+use answer::Counted;
 use answer::Parameter;
 use answer::Term;
 use answer::handed;
 use answer::infinite;
 use answer::infinity;
 use answer::settled;
+use answer::unasked;
 use incomplete::FAR_OUT;
 use incomplete::HALF_PI;
 use incomplete::ROOT_OF_SCALE;
@@ -18,7 +20,7 @@ use incomplete::on_circle;
 use incomplete::sine;
 use rf::rf;
 ghost use mathlib.Core.Path.{_≡_};
-ghost use Rattle.ellipf.specs.Ellipf.{signumOf, poleOf, farOf, middleOf, recipeOf, closedOf, withPeriodsOf, reducedOf, ellipfOf};
+ghost use Rattle.ellipf.specs.Ellipf.{signumOf, poleOf, farOf, middleOf, recipeOf, closedOf, withPeriodsOf, reducedOf, countedOf, ellipfOf};
 
 // 1/φ tells -0 from +0.
 fn signum(phi: f64) -> f64
@@ -78,6 +80,7 @@ fn recipe(s: f64, m: f64, sine: f64, cosine: f64) -> Term
         return Term {
             value: s * sine * f.value,
             met: f.met,
+            rounds: f.rounds,
         };
     }
     let c1 = c2 / s2;
@@ -87,12 +90,14 @@ fn recipe(s: f64, m: f64, sine: f64, cosine: f64) -> Term
         return Term {
             value: s * (f.value / ROOT_OF_SCALE),
             met: f.met,
+            rounds: f.rounds,
         };
     }
     let f = rf(c1, y, c);
     Term {
         value: s * f.value,
         met: f.met,
+        rounds: f.rounds,
     }
 }
 
@@ -117,36 +122,47 @@ fn with_periods(sign: f64, m: f64, mm: f64, t: Term) -> Answer
     closed(m, t.met, sign * t.value)
 }
 
-fn reduced(sign: f64, size: f64, m: f64) -> Answer
+fn reduced(sign: f64, size: f64, m: f64) -> Counted
     ensures { λ r. ⌜ r ≡ reducedOf sign size m ⌝ }
 {
     let f = folded(size);
     let p = on_circle(f.angle);
     let s = p.sine;
     if m * (s * s) >= 1.0 {
-        return Answer::Refused(3);
+        return unasked(Answer::Refused(3));
     }
-    with_periods(sign, m, f.mm, recipe(f.s, m, s, p.cosine))
+    let t = recipe(f.s, m, s, p.cosine);
+    Counted {
+        answer: with_periods(sign, m, f.mm, t),
+        rounds: t.rounds,
+    }
+}
+
+// The answer, and the rounds of the recipe asked for it.
+pub fn counted(phi: Amplitude, m: Parameter) -> Counted
+    ensures { λ r. ⌜ r ≡ countedOf (phi .0) (m .0) ⌝ }
+{
+    let phi = phi.0;
+    let m = m.0;
+    if (phi != phi) | (m != m) {
+        return unasked(Answer::Refused(1));
+    }
+    if m == 0.0 {
+        return unasked(handed(phi));
+    }
+    if hides_pole(phi, m) {
+        return unasked(Answer::Refused(3));
+    }
+    let sign = signum(phi);
+    let size = whole::magnitude(phi);
+    if size > FAR_OUT {
+        return unasked(far(sign, size, m));
+    }
+    reduced(sign, size, m)
 }
 
 pub fn ellipf(phi: Amplitude, m: Parameter) -> Answer
     ensures { λ r. ⌜ r ≡ ellipfOf (phi .0) (m .0) ⌝ }
 {
-    let phi = phi.0;
-    let m = m.0;
-    if (phi != phi) | (m != m) {
-        return Answer::Refused(1);
-    }
-    if m == 0.0 {
-        return handed(phi);
-    }
-    if hides_pole(phi, m) {
-        return Answer::Refused(3);
-    }
-    let sign = signum(phi);
-    let size = whole::magnitude(phi);
-    if size > FAR_OUT {
-        return far(sign, size, m);
-    }
-    reduced(sign, size, m)
+    counted(phi, m).answer
 }

@@ -1,3 +1,4 @@
--- Which answers there can be, and 01's corners.
+-- Which answers there can be, how many rounds, and 01's corners.
 pub mod Values
+pub mod Rounds
 pub mod Corners

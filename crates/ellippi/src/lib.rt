@@ -2,23 +2,29 @@
 // Domain: m ≤ 1, n ≠ 1; for n > 1 Cauchy's principal value. Arms and order of operations: ellippi.rs.
 use answer::Answer;
 use answer::Characteristic;
+use answer::Counted;
 use answer::Parameter;
 use answer::Term;
 use answer::infinity;
 use answer::settled;
+use answer::unasked;
 use incomplete::HALF_PI;
 use incomplete::complete_e;
 use incomplete::complete_k;
 use rj::rj;
 use rj::with_rf;
 ghost use mathlib.Core.Path.{_≡_};
-ghost use Rattle.ellippi.specs.Ellippi.{plainTerm, fromRestOf, principalOf, weightOf, bothBelowOf, firstBelowOf, firstZeroOf, diagonalOf, armsOf, ellippiOf};
+ghost use Rattle.ellippi.specs.Ellippi.{plainTerm, fromRestOf, principalOf, weightOf, bothBelowOf, firstBelowOf, firstZeroOf, diagonalOf, armsOf, countedOf, ellippiOf};
 
 // A formula that asks no recipe.
 fn plain_term(value: f64) -> Term
     ensures { λ r. ⌜ r ≡ plainTerm value ⌝ }
 {
-    Term { value, met: true }
+    Term {
+        value,
+        met: true,
+        rounds: 0,
+    }
 }
 
 // `ellippi_vc`: `rest` is 1 - n.
@@ -31,6 +37,7 @@ fn from_rest(n: f64, m: f64, rest: f64) -> Term
     Term {
         value: f.value + n * j.value / 3.0,
         met: f.met & j.met,
+        rounds: f.rounds + j.rounds + j.inside,
     }
 }
 
@@ -41,6 +48,7 @@ fn principal(n: f64, m: f64) -> Term
     Term {
         value: -(1.0 / 3.0) * m / n * j.value,
         met: j.met,
+        rounds: j.rounds + j.inside,
     }
 }
 
@@ -71,6 +79,7 @@ fn both_below(n: f64, m: f64) -> Term
     Term {
         value: k / rn + w * j.value,
         met: j.met,
+        rounds: j.rounds + j.inside,
     }
 }
 
@@ -84,6 +93,7 @@ fn first_below(n: f64, m: f64) -> Term
     Term {
         value: b + k * m / (m - n),
         met: t.met,
+        rounds: t.rounds,
     }
 }
 
@@ -125,27 +135,37 @@ fn arms(n: f64, m: f64) -> Term
     from_rest(n, m, 1.0 - n)
 }
 
-pub fn ellippi(n: Characteristic, m: Parameter) -> Answer
-    ensures { λ r. ⌜ r ≡ ellippiOf (n .0) (m .0) ⌝ }
+// The answer, and the rounds of all recipes asked for it.
+pub fn counted(n: Characteristic, m: Parameter) -> Counted
+    ensures { λ r. ⌜ r ≡ countedOf (n .0) (m .0) ⌝ }
 {
     let n = n.0;
     let m = m.0;
     if (n != n) | (m != m) {
-        return Answer::Refused(1);
+        return unasked(Answer::Refused(1));
     }
     if m > 1.0 {
-        return Answer::Refused(2);
+        return unasked(Answer::Refused(2));
     }
     if n == 1.0 {
-        return Answer::Refused(4);
+        return unasked(Answer::Refused(4));
     }
     if m == 1.0 {
-        return Answer::Infinite(1.0 - n < 0.0);
+        return unasked(Answer::Infinite(1.0 - n < 0.0));
     }
     let below = infinity(true);
     if (n == below) | (m == below) {
-        return Answer::One(0.0);
+        return unasked(Answer::One(0.0));
     }
     let t = arms(n, m);
-    settled(t.met, t.value)
+    Counted {
+        answer: settled(t.met, t.value),
+        rounds: t.rounds,
+    }
+}
+
+pub fn ellippi(n: Characteristic, m: Parameter) -> Answer
+    ensures { λ r. ⌜ r ≡ ellippiOf (n .0) (m .0) ⌝ }
+{
+    counted(n, m).answer
 }

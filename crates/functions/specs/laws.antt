@@ -1,3 +1,4 @@
--- Which sort each argument is, and what the sheet needs of every function.
+-- Which sort each argument is, what the sheet needs of every function, and how many rounds.
 pub mod Sorts
 pub mod Evaluated
+pub mod Rounds

@@ -2,9 +2,11 @@
 use answer::Amplitude;
 use answer::Answer;
 use answer::Characteristic;
+use answer::Counted;
 use answer::Parameter;
+use answer::unasked;
 ghost use mathlib.Core.Path.{_≡_};
-ghost use Rattle.functions.specs.Functions.{evaluateOf, usedOf};
+ghost use Rattle.functions.specs.Functions.{countedOf, evaluateOf, usedOf};
 
 // How many of the three arguments the function of this number reads.
 pub fn used(function: u8) -> u8
@@ -19,21 +21,28 @@ pub fn used(function: u8) -> u8
     2
 }
 
-// The function of this number at its arguments' bit patterns, which stand in the Rust's order.
+// The function of this number at its arguments' bit patterns, which stand in the Rust's order, and the rounds of all recipes asked for it.
 // Function 0, a blank row, has two zeros for its answers.
-pub fn evaluate(function: u8, a: u64, b: u64, c: u64) -> Answer
-    ensures { λ r. ⌜ r ≡ evaluateOf function a b c ⌝ }
+pub fn counted(function: u8, a: u64, b: u64, c: u64) -> Counted
+    ensures { λ r. ⌜ r ≡ countedOf function a b c ⌝ }
 {
     let x = bits::from_pattern(a);
     let y = bits::from_pattern(b);
     match function {
-        0 => Answer::One(0.0),
-        1 => legendre::ellipk(Parameter(x)),
-        2 => legendre::ellipe(Parameter(x)),
-        3 => legendre::ellipke(Parameter(x)),
-        4 => ellippi::ellippi(Characteristic(x), Parameter(y)),
-        5 => ellipeinc::ellipeinc(Amplitude(x), Parameter(y)),
-        6 => ellipf::ellipf(Amplitude(x), Parameter(y)),
-        _ => Answer::Refused(9),
+        0 => unasked(Answer::One(0.0)),
+        1 => unasked(legendre::ellipk(Parameter(x))),
+        2 => unasked(legendre::ellipe(Parameter(x))),
+        3 => unasked(legendre::ellipke(Parameter(x))),
+        4 => ellippi::counted(Characteristic(x), Parameter(y)),
+        5 => ellipeinc::counted(Amplitude(x), Parameter(y)),
+        6 => ellipf::counted(Amplitude(x), Parameter(y)),
+        _ => unasked(Answer::Refused(9)),
     }
+}
+
+// The answer alone.
+pub fn evaluate(function: u8, a: u64, b: u64, c: u64) -> Answer
+    ensures { λ r. ⌜ r ≡ evaluateOf function a b c ⌝ }
+{
+    counted(function, a, b, c).answer
 }

@@ -8,9 +8,9 @@ use Rattle.answer.specs.Answer.{refusalOf, firstOf, secondOf}
 use Rattle.legendre.specs.Domain.{byDomain}
 use Rattle.legendre.specs.Ellipke.{ellipkeOf}
 use Rattle.answer.specs.Settle.{handedOf}
-use Rattle.ellippi.specs.Ellippi.{ellippiOf}
-use Rattle.ellipeinc.specs.Ellipeinc.{itselfOf, ellipeincOf}
-use Rattle.functions.specs.Functions.{usedOf, evaluateOf}
+use Rattle.ellippi.specs.Ellippi as Ellippi
+use Rattle.ellipeinc.specs.Ellipeinc as Ellipeinc
+use Rattle.functions.specs.Functions.{usedOf, countedOf, evaluateOf}
 use Rattle.total.specs.Total.{N, Half, complement, negative, sizeOf, roundTotal}
 use Rattle.line.specs.Line.{digitOf, spellOf, decimalOf, patternOf, onto, cut, fieldsOf, given, editFrom, lineOf}
 use Rattle.ledger.specs.Bytes.{bytes, number, fields, read}
@@ -36,5 +36,5 @@ pub worked : (runOf (
     ++ ascii "total 4000000000000000\n")
     × (runOf (ascii "1\n" ++ ascii "0 5 4000000000000000 0000000000000000 0000000000000000 3\n")
     ≡ ascii "0 5 0 4000000000000000 0000000000000000 3\n" ++ ascii "counts 0 1 0 0 0\n" ++ ascii "total 4018000000000000\n")
-unfolding isNan ofBits toBits mul lt le eq ne neg sub round refusalOf firstOf secondOf byDomain ellipkeOf handedOf ellippiOf itselfOf ellipeincOf usedOf evaluateOf N Half complement negative sizeOf roundTotal digitOf spellOf decimalOf patternOf onto cut fieldsOf given editFrom lineOf bytes number fields read entries rowBytes functionIn timesIn refusalIn firstIn soundOf stored keep keptOf answered rowOf kindOf classOf valueOf sizeIn unitsIn retotal totals count sum flat encode rowsIn rowIn countsIn totalIn equal isSheetOf isSheet plus miscounted damaged rungs totalRefusal rowRefusal editRefusal blankRefusal blankOf recount revised edited editOf readOf timesOf totalOf countOf glyphOf digitsOf decimal pattern answerAt headText answersText rowText rowLine rowLines countFields countsLine totalLine pageOf linesOf zeros countOn editOn lineOn linesOn printed runOf
+unfolding isNan ofBits toBits mul lt le eq ne neg sub round refusalOf firstOf secondOf byDomain ellipkeOf handedOf Ellippi.countedOf Ellipeinc.itselfOf Ellipeinc.countedOf usedOf countedOf evaluateOf N Half complement negative sizeOf roundTotal digitOf spellOf decimalOf patternOf onto cut fieldsOf given editFrom lineOf bytes number fields read entries rowBytes functionIn timesIn refusalIn firstIn soundOf stored keep keptOf answered rowOf kindOf classOf valueOf sizeIn unitsIn retotal totals count sum flat encode rowsIn rowIn countsIn totalIn equal isSheetOf isSheet plus miscounted damaged rungs totalRefusal rowRefusal editRefusal blankRefusal blankOf recount revised edited editOf readOf timesOf totalOf countOf glyphOf digitsOf decimal pattern answerAt headText answersText rowText rowLine rowLines countFields countsLine totalLine pageOf linesOf zeros countOn editOn lineOn linesOn printed runOf
 worked = (refl, refl)

@@ -3,15 +3,9 @@ use mathlib.Core.Path.{_≡_, sym, subst}
 use Prim.Native.Nat.{ℕ, _≤_, _<_, _+_, _*_}
 use native.Mathlib.Omega.{arith}
 use lib.Ieee.{Float}
-use Rattle.carlson.specs.declared.Outcome.{Outcome}
-use Rattle.rc.specs.Rc.{rcOf}
-use Rattle.rc.specs.laws.Counts.{rc-counts}
 use Rattle.rj.specs.Rj.{startOf, roundOf}
 use Rattle.rj.specs.laws.Counts as laws
 use Rattle.rj.specs.declared.State.{State}
-
-pub few-of : (x y : Float) (c : Outcome) → c ≡ rcOf x y → c .rounds ≤ 64
-few-of x y c e = subst (λ (u : Outcome). u .rounds ≤ 64) (sym e) (rc-counts x y .most)
 
 -- the inner rounds of k rounds are at most 64 k
 pub first : (x y z p : Float) (s : State) → s ≡ startOf x y z p → s .inside ≤ 64 * 0

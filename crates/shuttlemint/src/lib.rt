@@ -12,6 +12,7 @@ ghost use Rattle.answer.specs.Answer.{valueOf};
 ghost use Rattle.angle.specs.Sine.{sineOf};
 ghost use Rattle.angle.specs.Cosine.{cosineOf};
 ghost use Rattle.logarithm.specs.Logarithm.{logarithmOf};
+ghost use Rattle.functions.specs.Functions.{countedOf};
 ghost use Rattle.ledger.specs.Calls.{blankRefusal, blankOf, rowRefusal, classIn, timesOf, totalRefusal, totalOf, countOf};
 ghost use Rattle.sheet.specs.Edit.{editRefusal, editOf};
 ghost use Rattle.shuttlemint.specs.Face.{evaluateRefusal, evaluateOut, rowPlaceOf};
@@ -103,6 +104,14 @@ pub extern "C" fn sm_evaluate(function: u8, a: u64, b: u64, c: u64, out: &mut [u
     out[0] = bits::to_pattern(z.first);
     out[1] = bits::to_pattern(z.second);
     z.refusal
+}
+
+// How many rounds the recipes made that the function asks, all calls together; a refused answer has its rounds too.
+#[no_mangle]
+pub extern "C" fn sm_rounds(function: u8, a: u64, b: u64, c: u64) -> usize
+    ensures { λ r. ⌜ r ≡ countedOf function a b c .rounds ⌝ }
+{
+    functions::counted(function, a, b, c).rounds
 }
 
 #[no_mangle]

@@ -1,6 +1,6 @@
 // What each kind of list is worked out by. A line holds the arguments' patterns, then the answer's.
 // The kinds by number: 1 magnitude, 2 trunc, 3 floor, 4 round, 5 root, 6 fused, 7 the complete integrals, 8 ellippi, 9 ellipeinc, 10 ellipf,
-// 11 sine, 12 cosine, 13 logarithm, 14 remainder, 15 RF, 16 RC, 17 RD, 18 RJ. No other is a kind.
+// 11 sine, 12 cosine, 13 logarithm, 14 remainder, 15 RF, 16 RC, 17 RD, 18 RJ, 19 rounds. No other is a kind.
 ghost use Prim.Native.Nat.{_<_, _≤_};
 use crate::text::float;
 use crate::text::shaped;
@@ -119,6 +119,13 @@ fn agrees_complete(s: &[u8]) -> bool {
     refusal & values
 }
 
+// The first word is a function of the sheet, the last the rounds of all recipes asked for it.
+fn agrees_rounds(s: &[u8]) -> bool {
+    let function = (word(s, 0) % 256) as u8;
+    let z = functions::counted(function, word(s, 17), word(s, 34), 0);
+    (z.rounds as u64) == word(s, 51)
+}
+
 // The function of the sheet whose list this is.
 fn function_of(kind: u8) -> u8 {
     if kind == 8 {
@@ -187,7 +194,7 @@ fn agrees_recipe(kind: u8, s: &[u8]) -> Shown {
     )
 }
 
-// By bits.
+// By bits, or by the count.
 fn agrees_exactly(kind: u8, s: &[u8]) -> bool {
     if kind == 0 {
         return false;
@@ -201,6 +208,9 @@ fn agrees_exactly(kind: u8, s: &[u8]) -> bool {
     if kind == 14 {
         return agrees_remainder(s);
     }
+    if kind == 19 {
+        return agrees_rounds(s);
+    }
     agrees_single(kind, s)
 }
 
@@ -209,7 +219,7 @@ pub(crate) fn agrees(kind: u8, s: &[u8]) -> Shown {
     if !shaped(s) {
         return exact(false);
     }
-    if (kind < 8) | (kind == 14) {
+    if (kind < 8) | (kind == 14) | (kind == 19) {
         return exact(agrees_exactly(kind, s));
     }
     if kind < 11 {

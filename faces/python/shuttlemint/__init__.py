@@ -19,7 +19,7 @@ shuttlemint.Refused: ellipk(2.0): refusal 2: m is greater than 1, where the inte
 """
 from pathlib import Path as _Path
 
-from ._integrals import Masked, ellipe, ellipeinc, ellipf, ellipk, ellipke, ellipkinc, ellippi, evaluate, pattern, value
+from ._integrals import Masked, ellipe, ellipeinc, ellipf, ellipk, ellipke, ellipkinc, ellippi, evaluate, pattern, rounds, value
 from ._library import LibraryNotFound
 from ._refusals import Refusal, Refused, refusal_words
 from ._sheet import MOST_ROWS, Class, Counts, Row, Sheet
@@ -27,7 +27,7 @@ from ._sheet import MOST_ROWS, Class, Counts, Row, Sheet
 __version__ = (_Path(__file__).parent / "VERSION").read_text().strip()
 __all__ = [
     "Class", "Counts", "LibraryNotFound", "MOST_ROWS", "Masked", "Refusal", "Refused", "Row", "Sheet", "ellipe", "ellipeinc", "ellipf", "ellipk",
-    "ellipke", "ellipkinc", "ellippi", "evaluate", "pattern", "refusal_words", "value",
+    "ellipke", "ellipkinc", "ellippi", "evaluate", "pattern", "refusal_words", "rounds", "value",
 ]
 for _name in ("LibraryNotFound", "Refusal", "Refused", "Class", "Counts", "Row", "Sheet", "Masked"):
     globals()[_name].__module__ = __name__  # as they are shown

@@ -8,7 +8,7 @@ from array import array
 from collections.abc import Mapping
 from typing import Any, Callable, List, Literal, NamedTuple, Sequence, Tuple, Union
 
-from ._library import FUNCTIONS, evaluate as _evaluate, evaluate_all, pattern_of, within
+from ._library import FUNCTIONS, evaluate as _evaluate, evaluate_all, pattern_of, rounds as _rounds, within
 from ._refusals import Refused, accepted
 
 OnRefusal = Literal["raise", "mask"]
@@ -57,6 +57,20 @@ def evaluate(function: int, a: int = 0, b: int = 0, c: int = 0) -> Tuple[int, in
     refusal, first, second = _evaluate(within(function, 255), a, b, c)
     accepted(refusal, f"evaluate({function}, {a:#018x}, {b:#018x}, {c:#018x})")
     return first, second
+
+
+def rounds(function: int, a: int = 0, b: int = 0, c: int = 0) -> int:
+    """How many rounds Carlson's recipes made for what `evaluate` answers, all calls together, those of RC inside RJ too.
+
+    A refused answer has its rounds too, and a recipe whose stop test was never met (refusal 5) has 64. 0 where no recipe is asked: functions 0 to 3, and
+    numbers above the last.
+
+    >>> rounds(6, pattern(1.0), pattern(-math.inf))      # ellipf(1, -inf) is 0, though RF is not met
+    64
+    >>> rounds(3, pattern(1.0))
+    0
+    """
+    return _rounds(within(function, 255), pattern_of(a), pattern_of(b), pattern_of(c))
 
 
 # ---- numbers and sequences

@@ -31,6 +31,7 @@ FUNCTIONS: Tuple[Tuple[str, Tuple[str, ...], int], ...] = (
 _SLICE = [c_void_p, c_size_t]
 _CALLS = {
     "sm_evaluate": (c_uint8, [c_uint8, c_uint64, c_uint64, c_uint64, *_SLICE]),
+    "sm_rounds": (c_size_t, [c_uint8, c_uint64, c_uint64, c_uint64]),
     "sm_blank": (c_uint8, [*_SLICE, c_uint32]),
     "sm_edit": (c_uint8, [*_SLICE, c_uint32, c_uint8, c_uint64, c_uint64, c_uint64, c_uint16]),
     "sm_row_at": (c_size_t, [*_SLICE, c_uint32]),
@@ -123,6 +124,11 @@ def evaluate(function: int, a: int, b: int, c: int) -> Tuple[int, int, int]:
     """Refusal number and two answers' patterns."""
     out = _Two()
     return library.sm_evaluate(function, a, b, c, out, 2), out[0], out[1]
+
+
+def rounds(function: int, a: int, b: int, c: int) -> int:
+    """How many rounds the recipes made."""
+    return int(library.sm_rounds(function, a, b, c))
 
 
 def evaluate_all(function: int, patterns: List[List[int]], answers: int) -> bytearray:

@@ -238,6 +238,14 @@ class Shapes(unittest.TestCase):
             with self.assertRaisesRegex(ValueError, "no bit pattern"):
                 shuttlemint.evaluate(1, bad)
 
+    def test_rounds(self):
+        self.assertEqual(shuttlemint.rounds(4, shuttlemint.pattern(-(2.0**-900)), shuttlemint.pattern(-(2.0**682))), 77)  # RJ has 13, an RC inside it 64
+        for function in (0, 1, 2, 3, LAST + 1, 255, 260, -1):
+            self.assertEqual(shuttlemint.rounds(function, shuttlemint.pattern(0.25), shuttlemint.pattern(0.5)), 0)
+        for bad in (-1, 1 << 64):
+            with self.assertRaisesRegex(ValueError, "no bit pattern"):
+                shuttlemint.rounds(4, bad)
+
     def test_a_function_number_never_wraps(self):
         for function in (256, 257, 259, 1 << 32, (1 << 64) + 1, -1, -255):
             self.assertEqual(by_number(function, ONE), (9, 0, 0))

@@ -3,6 +3,7 @@
 mod c {
     extern "C" {
         pub fn sm_evaluate(function: u8, a: u64, b: u64, c: u64, out: *mut u64, len: usize) -> u8;
+        pub fn sm_rounds(function: u8, a: u64, b: u64, c: u64) -> usize;
         pub fn sm_blank(sheet: *mut u8, len: usize, rows: u32) -> u8;
         pub fn sm_edit(sheet: *mut u8, len: usize, row: u32, function: u8, a: u64, b: u64, c: u64, times: u16) -> u8;
         pub fn sm_row_at(sheet: *const u8, len: usize, row: u32) -> usize;
@@ -21,6 +22,10 @@ pub fn evaluate(function: u8, a: u64, b: u64, c: u64) -> (u8, [u64; 2]) {
     let mut out = [0; 2];
     let refusal = unsafe { c::sm_evaluate(function, a, b, c, out.as_mut_ptr(), out.len()) };
     (refusal, out)
+}
+
+pub fn rounds(function: u8, a: u64, b: u64, c: u64) -> usize {
+    unsafe { c::sm_rounds(function, a, b, c) }
 }
 
 pub fn blank(sheet: &mut [u8], rows: u32) -> u8 {

@@ -92,3 +92,19 @@ pub fn evaluate(function: u8, a: u64, b: u64, c: u64) -> Result<[u64; 2], Refusa
     refusal::accepted(number)?;
     Ok(answers)
 }
+
+/// How many rounds Carlson's recipes RF, RC, RD and RJ made for what [`evaluate`] answers, all calls together, those of RC inside RJ too.
+///
+/// A refused answer has its rounds too, and a recipe whose stop test was never met (refusal 5) has 64. 0 where no recipe is asked: functions 0 to 3, and
+/// numbers above the last.
+///
+/// ```
+/// use shuttlemint::rounds;
+///
+/// let (one, minus_infinity) = (1f64.to_bits(), f64::NEG_INFINITY.to_bits());
+/// assert_eq!(rounds(6, one, minus_infinity, 0), 64); // ellipf(1, -∞) is +0, though RF is not met
+/// assert_eq!(rounds(3, one, 0, 0), 0);
+/// ```
+pub fn rounds(function: u8, a: u64, b: u64, c: u64) -> usize {
+    face::rounds(function, a, b, c)
+}

@@ -11,6 +11,7 @@ use Rattle.answer.specs.Numbers.{stored}
 use Rattle.answer.specs.Sound.{Number, Sound}
 use Rattle.answer.specs.declared.Answer.{Answer}
 use Rattle.answer.specs.declared.Answer.the-variants.{One, Pair, Infinite, Refused}
+use Rattle.answer.specs.declared.Counted.{Counted}
 use Rattle.answer.specs.Settle.{finiteOf, settledOf, handedOf}
 
 -- what a function may answer besides one finite value: the refusals that its tests give, and an infinity or not. 5 and 6, where a formula has no answer, come with any
@@ -68,9 +69,14 @@ pub answered : (may : May) (v : Float) → T (finite v && fits binary64 v) → F
 unfolding Fair
 answered may v h = record { bounded = and-l (finite v) (fits binary64 v) h; fit = and-r (finite v) (fits binary64 v) h }
 
-pub rung : (may : May) (t : Bool) (a b : Answer) → Fair may a → Fair may b → Fair may (cond t a b)
-rung may true a b p q = p
-rung may false a b p q = q
+-- down the tests: whatever holds of each arm
+pub rung : {A : Type 0} (P : A → Type 0) (t : Bool) (a b : A) → P a → P b → P (cond t a b)
+rung P true a b p q = p
+rung P false a b p q = q
+
+-- of an answer that comes with its rounds
+abbrev pub FairOf : May → Counted → Type 0
+FairOf may c = Fair may (c .answer)
 
 pub finite-fair : (may : May) (v : Float) → T (fits binary64 v) → Fair may (finiteOf v)
 unfolding finiteOf

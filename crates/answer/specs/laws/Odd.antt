@@ -1,5 +1,6 @@
 -- The answer for -φ beside that for φ: what an odd function's tests and arms need. Assumes nothing.
 use mathlib.Core.Path.{_≡_, refl, sym, ap, _∙_}
+use Prim.Native.Nat.{ℕ}
 use mathlib.Core.Bool.{Bool, true, false, not, cond}
 use lib.Ieee.{Float, nan, inf, fin, neg, isNan}
 use Rattle.laws.specs.Arithmetic.{_≠·_, 1·0}
@@ -7,6 +8,7 @@ use Rattle.laws.specs.laws.Kinds.{differs-is}
 use Rattle.laws.specs.laws.Signs.{neg-neg}
 use Rattle.answer.specs.declared.Answer.{Answer}
 use Rattle.answer.specs.declared.Answer.the-variants.{One, Pair, Infinite, Refused}
+use Rattle.answer.specs.declared.Counted.{Counted}
 use Rattle.answer.specs.Settle.{handedOf}
 
 -- the answer for -φ; refusals alike
@@ -29,11 +31,18 @@ pub one-turned : (b : Bool) → cond (not b) (neg 1·0) 1·0 ≡ neg (cond b (ne
 one-turned true = sym (neg-neg 1·0)
 one-turned false = refl
 
--- down the tests, arm by arm
-pub rung : (t u : Bool) (a b c d : Answer) → t ≡ u → a ≡ turnOf c → b ≡ turnOf d → cond t a b ≡ turnOf (cond u c d)
-rung t u a b c d e p q = ap (λ (t : Bool). cond t a b) e ∙ go u
+-- after as many rounds
+abbrev pub turnedOf : Counted → Counted
+turnedOf c = record { answer = turnOf (c .answer); rounds = c .rounds }
+
+pub after : (n : ℕ) {a b : Answer} → a ≡ b → _≡_ {A = Counted} (record { answer = a; rounds = n }) (record { answer = b; rounds = n })
+after n e = ap (λ (a : Answer). record { answer = a; rounds = n }) e
+
+-- down the tests, arm by arm; `turn` is one of the two
+pub rung : {A : Type 0} (turn : A → A) (t u : Bool) (a b c d : A) → t ≡ u → a ≡ turn c → b ≡ turn d → cond t a b ≡ turn (cond u c d)
+rung turn t u a b c d e p q = ap (λ (t : Bool). cond t a b) e ∙ go u
   where
-    go : (u : Bool) → cond u a b ≡ turnOf (cond u c d)
+    go : (u : Bool) → cond u a b ≡ turn (cond u c d)
     go true = p
     go false = q
 

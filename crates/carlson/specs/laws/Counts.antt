@@ -20,6 +20,9 @@ pub record Counts {S : Type 0} (stops : S → Bool) (round : S → S) (s : S) (n
   pub first : n < 64 → stops (after round n s) ≡ true
   pub none : ((k : ℕ) → k < 64 → stops (after round k s) ≡ false) → n ≡ 64
 
+pub few : {S : Type 0} {stops : S → Bool} {round : S → S} {s : S} {o u : Outcome} → o ≡ u → Counts stops round s (u .rounds) → o .rounds ≤ 64
+few e c = subst (λ (o : Outcome). o .rounds ≤ 64) (sym e) (c .most)
+
 -- j rounds are made, of at most n
 record Made {S : Type 0} (stops : S → Bool) (round : S → S) (n : ℕ) (s : S) (j : ℕ) : Type 0 where
   few : j ≤ n

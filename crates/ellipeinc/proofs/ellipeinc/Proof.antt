@@ -1,8 +1,6 @@
--- Down 01's list of tests: the i-th return passed the tests before its own.
-use mathlib.Core.Path.{refl}
-use lib.Ieee.{ofBits}
-use Rattle.laws.specs.Ladder.{held, passed}
-use Rattle.answer.specs.Answer.{firstOf}
+-- The answer of `counted`.
+use mathlib.Core.Path.{ap}
+use Rattle.answer.specs.declared.Counted.{Counted}
 use Rattle.ellipeinc.specs.Ellipeinc.{ellipeincOf}
 use borrow.Author.Needs.{needs}
 use Rattle.ellipeinc.proofs.ellipeinc.Statement.{statement}
@@ -10,65 +8,7 @@ use Rattle.ellipeinc.proofs.ellipeinc.Tie as tie
 
 returns : tie.Need-returns
 unfolding ellipeincOf
-returns c = held _ _ (c .if1 .taken) refl
-
-returns-2 : tie.Need-returns-2
-unfolding ellipeincOf
-returns-2 c =
-    let t2 = c .before in
-    let t1 = t2 .before in
-    passed _ _ (t1 .if1 .left) (held _ _ (t2 .if2 .taken) (c .itself .ensures))
-
-returns-3 : tie.Need-returns-3
-unfolding ellipeincOf firstOf ofBits
-returns-3 c =
-    let t3 = c in
-    let t2 = t3 .before .before in
-    let t1 = t2 .before in
-    rw (← t1 .before .magnitude .ensures) (passed _ _ (t1 .if1 .left) (passed _ _ (t2 .if2 .left) (held _ _ (rw (t3 .before .infinity .ensures) at (t3 .if3 .taken)) refl)))
-
-returns-4 : tie.Need-returns-4
-unfolding ellipeincOf firstOf ofBits
-returns-4 c =
-    let t4 = c in
-    let t3 = t4 .before in
-    let t2 = t3 .before .before in
-    let t1 = t2 .before in
-    rw (← t1 .before .magnitude .ensures) (passed _ _ (t1 .if1 .left) (passed _ _ (t2 .if2 .left) (passed _ _ (rw (t3 .before .infinity .ensures) at (t3 .if3 .left)) (held _ _ (t4 .if4 .taken) refl))))
-
-returns-5 : tie.Need-returns-5
-unfolding ellipeincOf firstOf ofBits
-returns-5 c =
-    let t5 = c in
-    let t4 = t5 .before in
-    let t3 = t4 .before in
-    let t2 = t3 .before .before in
-    let t1 = t2 .before in
-    rw (← t1 .before .magnitude .ensures) (passed _ _ (t1 .if1 .left) (passed _ _ (t2 .if2 .left) (passed _ _ (rw (t3 .before .infinity .ensures) at (t3 .if3 .left)) (passed _ _ (t4 .if4 .left) (held _ _ (t5 .if5 .taken) refl)))))
-
-returns-6 : tie.Need-returns-6
-unfolding ellipeincOf firstOf ofBits
-returns-6 c =
-    let t6 = c in
-    let t5 = t6 .before .before in
-    let t4 = t5 .before in
-    let t3 = t4 .before in
-    let t2 = t3 .before .before in
-    let t1 = t2 .before in
-    rw (← t1 .before .magnitude .ensures) (passed _ _ (t1 .if1 .left) (passed _ _ (t2 .if2 .left) (passed _ _ (rw (t3 .before .infinity .ensures) at (t3 .if3 .left)) (passed _ _ (t4 .if4 .left) (passed _ _ (t5 .if5 .left)
-    (held _ _ (rw (t6 .before .infinity2 .ensures) at (t6 .if6 .taken)) refl))))))
-
-returns-7 : tie.Need-returns-7
-unfolding ellipeincOf firstOf ofBits
-returns-7 c =
-    let t6 = c .before .before in
-    let t5 = t6 .before .before in
-    let t4 = t5 .before in
-    let t3 = t4 .before in
-    let t2 = t3 .before .before in
-    let t1 = t2 .before in
-    rw (← t1 .before .magnitude .ensures, ← c .before .sign .ensures) (passed _ _ (t1 .if1 .left) (passed _ _ (t2 .if2 .left) (passed _ _ (rw (t3 .before .infinity .ensures) at (t3 .if3 .left)) (passed _ _ (t4 .if4 .left) (passed _ _ (t5 .if5 .left)
-    (passed _ _ (rw (t6 .before .infinity2 .ensures) at (t6 .if6 .left)) (c .on-size .ensures)))))))
+returns c = ap (λ (r : Counted). r .answer) (c .counted .ensures)
 
 pub ellipeinc-spec : {M : Type 1} → statement M
-ellipeinc-spec = tie.close (tie.spec (λ c κs. search needs) returns (λ c κs. search needs) returns-2 (λ c κs. search needs) returns-3 returns-4 returns-5 (λ c κs. search needs) returns-6 (λ c κs. search needs) (λ c κs. search needs) returns-7)
+ellipeinc-spec = tie.close (tie.spec (λ c κs. search needs) returns)

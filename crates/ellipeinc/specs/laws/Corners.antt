@@ -1,18 +1,27 @@
 -- The corner table's lines of ellipeinc (01, with 02's [7]), by computing. Assumes nothing.
 use mathlib.Core.Path.{_≡_, refl}
 use mathlib.Core.Bool.{true, false}
-use lib.Ieee.{Float, nan, ofBits, neg, add, sub, mul, div, lt, le, eq, ne, round, toUnsigned}
+use lib.Ieee.{Float, nan, ofBits, neg, add, sub, sum, mul, div, rem, lt, le, eq, ne, round, toUnsigned}
 use Rattle.laws.specs.Arithmetic.{float, dec, +0, +∞, -∞, most, ½, 1·0, 2·0}
 use Rattle.answer.specs.Answer.{valueOf}
 use Rattle.answer.specs.declared.Answer.the-variants.{One, Infinite, Refused}
-use Rattle.whole.specs.Whole.{magnitudeOf}
+use Rattle.root.specs.Root.{rootOf}
+use Rattle.whole.specs.Whole.{magnitudeOf, roundOf}
+use Rattle.angle.specs.Alternating.{squareOf, alternatingOf, upToFour}
+use Rattle.angle.specs.Sine.{sineAt, sineOf}
+use Rattle.angle.specs.Cosine.{cosineAt, cosineOf}
+use Rattle.carlson.specs.Loop.{iterate, duplicated}
+use Rattle.carlson.specs.Series.{largerOf, rootsOf, fifthOf, trustedOf}
+use Rattle.rf.specs.Rf as Rf
+use Rattle.rd.specs.Rd as Rd
+use Rattle.incomplete.specs.Period.{foldedOf}
 use Rattle.legendre.specs.Domain.{byDomain, belowOneOf}
 use Rattle.legendre.specs.Ellipe.{eBelowOneOf, ellipeWithin, ellipeOf}
 use Rattle.pieces.specs.Coeffs.{eRows}
 use Rattle.pieces.specs.Piece.{truncatedOf, rowOf, pieceOf, centreOf, ePieceOf}
 use Rattle.pieces.specs.Polyeval.{pairedOf, hornerOf, polyevalOf}
 use Rattle.answer.specs.Settle.{handedOf}
-use Rattle.ellipeinc.specs.Ellipeinc.{ellipeincOf, onSizeOf, farOf, itselfOf, signOf}
+use Rattle.ellipeinc.specs.Ellipeinc.{countedOf, ellipeincOf, onSizeOf, reducedOf, byRecipeOf, withPeriodsOf, recipeOf, aboveOf, ownOf, farOf, itselfOf, signOf}
 
 -- 2^-1000
 abbrev pub tiny : Float
@@ -33,7 +42,10 @@ pub record Corners : Type 0 where
   pub most-zero : ellipeincOf most +0 ≡ One most
   pub most-nan : ellipeincOf most nan ≡ Refused 1
   pub most-two : ellipeincOf most 2·0 ≡ Refused 2
+  -- rounds (02, [3]): 3 comes before the recipes; 2 with a period term after them, RF's two rounds and RD's three made: 3.3 is π and more
+  pub three-unasked : countedOf 1·0 2·0 ≡ record { answer = Refused 3; rounds = 0 }
+  pub two-after-both : countedOf (float 0x400a_6666_6666_6666) 2·0 ≡ record { answer = Refused 2; rounds = 5 }
 
 pub corners : Corners
-unfolding ellipeincOf onSizeOf farOf itselfOf signOf handedOf valueOf magnitudeOf ellipeOf ellipeWithin byDomain eBelowOneOf belowOneOf truncatedOf rowOf pieceOf centreOf ePieceOf eRows polyevalOf pairedOf hornerOf dec toUnsigned ofBits lt le eq ne add sub mul div neg round
-corners = record { zero-nan = refl; tiny-bottom = refl; least-bottom = refl; infinite-nan = refl; nan-bottom = refl; large-one = refl; most-one = refl; most-half = refl; most-zero = refl; most-nan = refl; most-two = refl }
+unfolding ellipeincOf countedOf onSizeOf reducedOf byRecipeOf withPeriodsOf recipeOf aboveOf ownOf foldedOf sineOf sineAt cosineOf cosineAt upToFour squareOf alternatingOf Rf.rfOf Rf.startOf Rf.stopsOf Rf.nextOf Rf.roundOf Rf.closedOf Rf.seriesOf Rd.rdOf Rd.startOf Rd.stopsOf Rd.nextOf Rd.roundOf Rd.closedOf Rd.seriesOf largerOf rootsOf fifthOf trustedOf iterate duplicated rootOf roundOf farOf itselfOf signOf handedOf valueOf magnitudeOf ellipeOf ellipeWithin byDomain eBelowOneOf belowOneOf truncatedOf rowOf pieceOf centreOf ePieceOf eRows polyevalOf pairedOf hornerOf dec toUnsigned ofBits lt le eq ne add sub sum mul div rem neg round
+corners = record { zero-nan = refl; tiny-bottom = refl; least-bottom = refl; infinite-nan = refl; nan-bottom = refl; large-one = refl; most-one = refl; most-half = refl; most-zero = refl; most-nan = refl; most-two = refl; three-unasked = refl; two-after-both = refl }

@@ -14,32 +14,37 @@ use Rattle.laws.specs.Arithmetic.{_⊗_, _⊘_, _<·_, _≤·_, _=·_, _≠·_,
 use Rattle.laws.specs.laws.Flags.{is-some}
 use Rattle.laws.specs.Ladder.{held, passed}
 use Rattle.answer.specs.Answer.{valueOf}
+use Rattle.answer.specs.declared.Answer.{Answer}
 use Rattle.answer.specs.declared.Answer.the-variants.{One, Infinite, Refused}
 use Rattle.whole.specs.Whole.{magnitudeOf}
 use Rattle.angle.specs.Sine.{sineOf}
 use Rattle.legendre.specs.Domain.{byDomain}
 use Rattle.legendre.specs.Ellipe.{ellipeWithin, ellipeOf}
 use Rattle.incomplete.specs.declared.Fold.{Fold}
-use Rattle.answer.specs.Settle.{handedOf}
+use Rattle.answer.specs.Settle.{handedOf, unaskedOf}
+use Rattle.answer.specs.declared.Counted.{Counted}
 use Rattle.incomplete.specs.Period.{far-out, foldedOf}
-use Rattle.ellipeinc.specs.Ellipeinc.{signOf, itselfOf, farOf, lineOf, ownOf, withPeriodsOf, byRecipeOf, reducedOf, onSizeOf, ellipeincOf}
+use Rattle.ellipeinc.specs.Ellipeinc.{signOf, itselfOf, farOf, lineOf, ownOf, withPeriodsOf, byRecipeOf, reducedOf, onSizeOf, countedOf, ellipeincOf}
 use Rattle.whole.specs.laws.Magnitude.{magnitude-nan, magnitude-neg}
 use Rattle.laws.specs.laws.Signs.{mul-neg}
 use Rattle.laws.specs.laws.Kinds.{differs-is}
-use Rattle.answer.specs.laws.Odd.{turnOf, same-kind, one-turned, rung, handed-odd}
+use Rattle.answer.specs.laws.Odd.{turnOf, turnedOf, same-kind, one-turned, after, rung, handed-odd}
+
+abbrev answer : Counted → Answer
+answer c = c .answer
 
 -- ---- E(0, m) = 0 and E(φ, 0) = φ
 pub at-origin : (φ m : Float) → (φ =· +0) ≡ true → ellipeincOf φ m ≡ One +0
-unfolding ellipeincOf
-at-origin φ m h = sym (held _ _ h refl)
+unfolding ellipeincOf countedOf
+at-origin φ m h = ap answer (sym (held _ _ h refl))
 
 own-answer : (φ : Float) → T (finite φ) → itselfOf φ ≡ One φ
 unfolding itselfOf handedOf isNan
 own-answer (fin s m e) h = sym (passed _ _ (differs-is (fin s m e)) refl)
 
 pub no-parameter : (φ m : Float) → (φ =· +0) ≡ false → T (finite φ) → (m =· +0) ≡ true → ellipeincOf φ m ≡ One φ
-unfolding ellipeincOf
-no-parameter φ m h k z = sym (passed _ _ h (held _ _ z (sym (own-answer φ k))))
+unfolding ellipeincOf countedOf
+no-parameter φ m h k z = ap answer (sym (passed _ _ h (held _ _ z refl))) ∙ own-answer φ k
 
 -- ---- what -φ shares with φ
 record Mirrored (φ : Float) : Type 0 where
@@ -89,11 +94,11 @@ other-sign φ h = ap (λ (b : Bool). cond b (neg 1·0) 1·0) h ∙ one-turned (�
 
 itself-odd : (φ : Float) → itselfOf (neg φ) ≡ turnOf (itselfOf φ)
 unfolding itselfOf turnOf
-itself-odd φ = rung _ (φ ≠· φ) _ _ _ _ (same-kind φ) refl (handed-odd _ φ refl)
+itself-odd φ = rung turnOf _ (φ ≠· φ) _ _ _ _ (same-kind φ) refl (handed-odd _ φ refl)
 
 far-odd : (sign size m : Float) → farOf (neg sign) size m ≡ turnOf (farOf sign size m)
 unfolding farOf turnOf
-far-odd sign size m = rung (1·0 <· m) (1·0 <· m) _ _ _ _ refl refl (handed-odd _ _ (mul-neg binary64 sign _))
+far-odd sign size m = rung turnOf (1·0 <· m) (1·0 <· m) _ _ _ _ refl refl (handed-odd _ _ (mul-neg binary64 sign _))
 
 line-odd : (sign size : Float) → lineOf (neg sign) size ≡ turnOf (lineOf sign size)
 unfolding lineOf
@@ -102,59 +107,61 @@ line-odd sign size = handed-odd _ _ (mul-neg binary64 sign _)
 periods-odd : (sign m mm : Float) (met : Bool) (v : Float) → withPeriodsOf (neg sign) m mm met v ≡ turnOf (withPeriodsOf sign m mm met v)
 unfolding withPeriodsOf turnOf
 periods-odd sign m mm met v =
-    rung (mm ≠· +0 && 1·0 <· m) (mm ≠· +0 && 1·0 <· m) _ _ _ _ refl refl
-    (rung (not met) (not met) _ _ _ _ refl refl
-    (rung (mm ≠· +0) (mm ≠· +0) _ _ _ _ refl (handed-odd _ _ (mul-neg binary64 sign _)) (handed-odd _ _ (mul-neg binary64 sign _))))
+    rung turnOf (mm ≠· +0 && 1·0 <· m) (mm ≠· +0 && 1·0 <· m) _ _ _ _ refl refl
+    (rung turnOf (not met) (not met) _ _ _ _ refl refl
+    (rung turnOf (mm ≠· +0) (mm ≠· +0) _ _ _ _ refl (handed-odd _ _ (mul-neg binary64 sign _)) (handed-odd _ _ (mul-neg binary64 sign _))))
 
-recipe-odd : (sign m : Float) (f : Fold) → byRecipeOf (neg sign) m f ≡ turnOf (byRecipeOf sign m f)
+recipe-odd : (sign m : Float) (f : Fold) → byRecipeOf (neg sign) m f ≡ turnedOf (byRecipeOf sign m f)
 unfolding byRecipeOf turnOf
 recipe-odd sign m f =
     let s = valueOf (sineOf (f .angle)) in
-    rung (1·0 ≤· m ⊗ (s ⊗ s)) (1·0 ≤· m ⊗ (s ⊗ s)) _ _ _ _ refl refl (periods-odd sign m _ _ _)
+    rung turnedOf (1·0 ≤· m ⊗ (s ⊗ s)) (1·0 ≤· m ⊗ (s ⊗ s)) _ _ _ _ refl refl (after _ (periods-odd sign m _ _ _))
 
-reduced-odd : (sign size m : Float) → reducedOf (neg sign) size m ≡ turnOf (reducedOf sign size m)
+reduced-odd : (sign size m : Float) → reducedOf (neg sign) size m ≡ turnedOf (reducedOf sign size m)
 unfolding reducedOf
 reduced-odd sign size m =
     let f = foldedOf size in
-    rung (ownOf (f .angle) m) (ownOf (f .angle) m) _ _ _ _ refl (periods-odd sign m _ _ _) (recipe-odd sign m f)
+    rung turnedOf (ownOf (f .angle) m) (ownOf (f .angle) m) _ _ _ _ refl (after 0 (periods-odd sign m _ _ _)) (recipe-odd sign m f)
 
-size-odd : (sign size m : Float) → onSizeOf (neg sign) size m ≡ turnOf (onSizeOf sign size m)
+size-odd : (sign size m : Float) → onSizeOf (neg sign) size m ≡ turnedOf (onSizeOf sign size m)
 unfolding onSizeOf
 size-odd sign size m =
-    rung (far-out <· size) (far-out <· size) _ _ _ _ refl (far-odd sign size m)
-    (rung (m =· 1·0) (m =· 1·0) _ _ _ _ refl (line-odd sign size) (reduced-odd sign size m))
+    rung turnedOf (far-out <· size) (far-out <· size) _ _ _ _ refl (after 0 (far-odd sign size m))
+    (rung turnedOf (m =· 1·0) (m =· 1·0) _ _ _ _ refl (after 0 (line-odd sign size)) (reduced-odd sign size m))
 
--- ---- oddness
-odd-of : (φ m : Float) → (φ =· +0) ≡ false → Mirrored φ → ellipeincOf (neg φ) m ≡ turnOf (ellipeincOf φ m)
-unfolding ellipeincOf turnOf
+-- ---- oddness, after as many rounds
+odd-of : (φ m : Float) → (φ =· +0) ≡ false → Mirrored φ → countedOf (neg φ) m ≡ turnedOf (countedOf φ m)
+unfolding countedOf turnOf
 odd-of φ m h k =
     sym (passed _ _ (k .still) refl)
-    ∙ rung (m =· +0) (m =· +0) _ _ _ _ refl (itself-odd φ)
-    (rung _ (magnitudeOf φ =· +∞) _ _ _ _ (ap (λ (a : Float). a =· +∞) (magnitude-neg φ)) (ap Infinite (k .sides))
-    (rung _ (φ ≠· φ && 1·0 <· m) _ _ _ _ (ap (λ (b : Bool). b && 1·0 <· m) (same-kind φ)) refl
-    (rung _ (φ ≠· φ || m ≠· m) _ _ _ _ (ap (λ (b : Bool). b || m ≠· m) (same-kind φ)) refl
-    (rung (m =· -∞) (m =· -∞) _ _ _ _ refl (ap Infinite (k .sides))
+    ∙ rung turnedOf (m =· +0) (m =· +0) _ _ _ _ refl (after 0 (itself-odd φ))
+    (rung turnedOf _ (magnitudeOf φ =· +∞) _ _ _ _ (ap (λ (a : Float). a =· +∞) (magnitude-neg φ)) (after 0 (ap Infinite (k .sides)))
+    (rung turnedOf _ (φ ≠· φ && 1·0 <· m) _ _ _ _ (ap (λ (b : Bool). b && 1·0 <· m) (same-kind φ)) refl
+    (rung turnedOf _ (φ ≠· φ || m ≠· m) _ _ _ _ (ap (λ (b : Bool). b || m ≠· m) (same-kind φ)) refl
+    (rung turnedOf (m =· -∞) (m =· -∞) _ _ _ _ refl (after 0 (ap Infinite (k .sides)))
     (ap₂ (λ (s a : Float). onSizeOf s a m) (other-sign φ (k .sides)) (magnitude-neg φ) ∙ size-odd (signOf φ) (magnitudeOf φ) m)))))
-    ∙ ap turnOf (passed _ _ h refl)
+    ∙ ap turnedOf (passed _ _ h refl)
 
 -- NaN is refused, whatever m is
-nan-refused : (m : Float) → ellipeincOf nan m ≡ cond (m =· +0) (Refused 1) (cond (1·0 <· m) (Refused 2) (Refused 1))
-unfolding ellipeincOf itselfOf ne eq le lt ofBits
-nan-refused m = ap (λ (a : Float). cond (m =· +0) (Refused 1) (cond (a =· +∞) (Infinite false) (cond (1·0 <· m) (Refused 2) (Refused 1)))) magnitude-nan
+abbrev refusals : Float → Counted
+refusals m = cond (m =· +0) (unaskedOf (Refused 1)) (cond (1·0 <· m) (unaskedOf (Refused 2)) (unaskedOf (Refused 1)))
 
-odd-nan : (m : Float) → ellipeincOf (neg nan) m ≡ turnOf (ellipeincOf nan m)
+nan-refused : (m : Float) → countedOf nan m ≡ refusals m
+unfolding countedOf itselfOf ne eq le lt ofBits
+nan-refused m = ap (λ (a : Float). cond (m =· +0) (unaskedOf (Refused 1)) (cond (a =· +∞) (unaskedOf (Infinite false)) (cond (1·0 <· m) (unaskedOf (Refused 2)) (unaskedOf (Refused 1))))) magnitude-nan
+
+odd-nan : (m : Float) → countedOf (neg nan) m ≡ turnedOf (countedOf nan m)
 unfolding neg turnOf
-odd-nan m = nan-refused m ∙ go (m =· +0) (1·0 <· m) ∙ sym (ap turnOf (nan-refused m))
-  where
-    go : (z o : Bool) → cond z (Refused 1) (cond o (Refused 2) (Refused 1)) ≡ turnOf (cond z (Refused 1) (cond o (Refused 2) (Refused 1)))
-    go true o = refl
-    go false true = refl
-    go false false = refl
+odd-nan m = nan-refused m ∙ rung turnedOf (m =· +0) (m =· +0) _ _ _ _ refl refl (rung turnedOf (1·0 <· m) (1·0 <· m) _ _ _ _ refl refl refl) ∙ sym (ap turnedOf (nan-refused m))
+
+pub counted-odd : (φ m : Float) → (φ =· +0) ≡ false → countedOf (neg φ) m ≡ turnedOf (countedOf φ m)
+counted-odd nan m h = odd-nan m
+counted-odd (inf s) m h = odd-of (inf s) m h (mirrored-inf s)
+counted-odd (fin s k e) m h = odd-of (fin s k e) m h (mirrored-fin s k e h)
 
 pub odd : (φ m : Float) → (φ =· +0) ≡ false → ellipeincOf (neg φ) m ≡ turnOf (ellipeincOf φ m)
-odd nan m h = odd-nan m
-odd (inf s) m h = odd-of (inf s) m h (mirrored-inf s)
-odd (fin s k e) m h = odd-of (fin s k e) m h (mirrored-fin s k e h)
+unfolding ellipeincOf
+odd φ m h = ap answer (counted-odd φ m h)
 
 -- ---- the rule for m = -∞ may stand before step 5 or after it: E(-∞) is +∞, and so is what step 5 makes of it
 infinite-e : valueOf (ellipeOf -∞) ≡ inf false

@@ -19,6 +19,7 @@ use Rattle.ellipeinc.specs.Clear.{ClearTerms, ClearBoth}
 pub record TermOver (i : ℕ) (t t' : Term) : Type 0 where
   pub value : Times 0 i (t .value) (t' .value)
   pub met : t' .met ≡ t .met
+  pub rounds : t' .rounds ≡ t .rounds
 
 terms-scaled : (i : ℕ) {m m' c c' c1 c1' : Float} → Times (i + i) 0 m m' → Times (i + i) 0 c c' → Times (i + i) 0 c1 c1' → ClearTerms m c c1 → ClearTerms m' c' c1' → TermOver i (twoTermsOf m c c1) (twoTermsOf m' c' c1')
 unfolding twoTermsOf ofBits fits
@@ -27,7 +28,7 @@ terms-scaled i m c c1 k l =
     let f = rf-scaled i c1 y c (k .first) (l .first) in
     let d = rd-scaled i c1 y c (k .second) (l .second) in
     let p = times-as 0 i (let z : i + i + 0 + i ≡ 0 + (0 + (i + (i + i))) = omega arith in z) (times-mul m (d .value) (k .product) (l .product)) in
-    record { value = times-sub (f .value) (times-over 3·0 tt tt p (k .third) (l .third)) (k .value) (l .value); met = ap₂ (λ (a b : Bool). a && b) (f .met) (d .met) }
+    record { value = times-sub (f .value) (times-over 3·0 tt tt p (k .third) (l .third)) (k .value) (l .value); met = ap₂ (λ (a b : Bool). a && b) (f .met) (d .met); rounds = ap₂ (λ (a b : ℕ). a + b) (f .rounds) (d .rounds) }
 
 terms-fit : (m c c1 : Float) → T (fits binary64 (twoTermsOf m c c1 .value))
 unfolding twoTermsOf
@@ -39,8 +40,8 @@ unfolding belowOf ofBits
 below-plain m c c1 h =
     let t = twoTermsOf (m ⊘ λ4) (c ⊘ λ4) (c1 ⊘ λ4) in
     let o = terms-scaled 256 (undivided 512 λ4 m (refl, refl) (h .finite-m) (h .fits-m) (h .m-over)) (undivided 512 λ4 c (refl, refl) (h .finite-c) (h .fits-c) (h .c-over)) (undivided 512 λ4 c1 (refl, refl) (h .finite-c1) (h .fits-c1) (h .c1-over)) (h .scaled) (h .plain) in
-    go (largeOf m c || cancelling <· m) (t .value ⊘ √λ) (t .met) (twoTermsOf m c c1) (divided 256 √λ (refl, refl) (terms-fit m c c1) (o .value)) (o .met)
+    go (largeOf m c || cancelling <· m) (t .value ⊘ √λ) (t .met) (t .rounds) (twoTermsOf m c c1) (divided 256 √λ (refl, refl) (terms-fit m c c1) (o .value)) (o .met) (o .rounds)
   where
-    go : (b : Bool) (v : Float) (k : Bool) (u : Term) → u .value ≡ v → u .met ≡ k → cond {A = Term} b (record { value = v; met = k }) u ≡ u
-    go true v k u e g = λ i. record { value = sym e i; met = sym g i }
-    go false v k u e g = refl
+    go : (b : Bool) (v : Float) (k : Bool) (n : ℕ) (u : Term) → u .value ≡ v → u .met ≡ k → u .rounds ≡ n → cond {A = Term} b (record { value = v; met = k; rounds = n }) u ≡ u
+    go true v k n u e g h = λ i. record { value = sym e i; met = sym g i; rounds = sym h i }
+    go false v k n u e g h = refl

@@ -1,6 +1,6 @@
--- Down the file's tests: the i-th return passed the tests before its own.
-use mathlib.Core.Path.{refl, sym, _∙_}
-use Rattle.laws.specs.Ladder.{held, passed}
+-- The answer of `counted`.
+use mathlib.Core.Path.{ap}
+use Rattle.answer.specs.declared.Counted.{Counted}
 use Rattle.ellipf.specs.Ellipf.{ellipfOf}
 use borrow.Author.Needs.{needs}
 use Rattle.ellipf.proofs.ellipf.Statement.{statement}
@@ -8,40 +8,7 @@ use Rattle.ellipf.proofs.ellipf.Tie as tie
 
 returns : tie.Need-returns
 unfolding ellipfOf
-returns c = held _ _ (c .if1 .taken) refl
-
-returns-2 : tie.Need-returns-2
-unfolding ellipfOf
-returns-2 c =
-    let t2 = c .before in
-    let t1 = t2 .before in
-    passed _ _ (t1 .if1 .left) (held _ _ (t2 .if2 .taken) (c .handed .ensures))
-
-returns-3 : tie.Need-returns-3
-unfolding ellipfOf
-returns-3 c =
-    let t3 = c in
-    let t2 = t3 .before .before in
-    let t1 = t2 .before in
-    passed _ _ (t1 .if1 .left) (passed _ _ (t2 .if2 .left) (held _ _ (sym (t3 .before .hides-pole .ensures) ∙ t3 .if3 .taken) refl))
-
-returns-4 : tie.Need-returns-4
-unfolding ellipfOf
-returns-4 c =
-    let t4 = c .before in
-    let t3 = t4 .before .before .before in
-    let t2 = t3 .before .before in
-    let t1 = t2 .before in
-    rw (← t4 .before .magnitude .ensures, ← t4 .before .before .signum .ensures) (passed _ _ (t1 .if1 .left) (passed _ _ (t2 .if2 .left) (passed _ _ (sym (t3 .before .hides-pole .ensures) ∙ t3 .if3 .left) (held _ _ (t4 .if4 .taken) (c .far .ensures)))))
-
-returns-5 : tie.Need-returns-5
-unfolding ellipfOf
-returns-5 c =
-    let t4 = c .before in
-    let t3 = t4 .before .before .before in
-    let t2 = t3 .before .before in
-    let t1 = t2 .before in
-    rw (← t4 .before .magnitude .ensures, ← t4 .before .before .signum .ensures) (passed _ _ (t1 .if1 .left) (passed _ _ (t2 .if2 .left) (passed _ _ (sym (t3 .before .hides-pole .ensures) ∙ t3 .if3 .left) (passed _ _ (t4 .if4 .left) (c .reduced .ensures)))))
+returns c = ap (λ (r : Counted). r .answer) (c .counted .ensures)
 
 pub ellipf-spec : {M : Type 1} → statement M
-ellipf-spec = tie.close (tie.spec returns (λ c κs. search needs) returns-2 (λ c κs. search needs) returns-3 (λ c κs. search needs) (λ c κs. search needs) (λ c κs. search needs) returns-4 (λ c κs. search needs) returns-5)
+ellipf-spec = tie.close (tie.spec (λ c κs. search needs) returns)

@@ -19,7 +19,7 @@ use Rattle.rf.specs.Rf as Rf
 use Rattle.answer.specs.Settle.{infiniteOf, finiteOf, settledOf, handedOf}
 use Rattle.incomplete.specs.Period.{foldedOf}
 use Rattle.incomplete.specs.Scaling.{largeOf}
-use Rattle.ellipf.specs.Ellipf.{signumOf, poleOf, farOf, middleOf, recipeOf, closedOf, withPeriodsOf, reducedOf, ellipfOf}
+use Rattle.ellipf.specs.Ellipf.{signumOf, poleOf, farOf, middleOf, recipeOf, closedOf, withPeriodsOf, reducedOf, countedOf, ellipfOf}
 
 pub record EllipfCorners : Type 0 where
   -- NaN comes first, before m = 0
@@ -40,13 +40,16 @@ pub record EllipfCorners : Type 0 where
   -- no finite answer: 0 at -∞, else 5 where RF is not met
   pub one-at-minus-infinity : ellipfOf 1·0 -∞ ≡ One +0
   pub zero-at-infinity : ellipfOf +0 +∞ ≡ Refused 5
+  -- rounds (02, [3]): 3 comes before the recipe; RF that is not met has made its 64, also where the answer is 0
+  pub three-unasked : countedOf 1·0 2·0 ≡ record { answer = Refused 3; rounds = 0 }
+  pub bottom-unmet : countedOf 1·0 -∞ ≡ record { answer = One +0; rounds = 64 }
   -- 1 / sin² is finite, and three times it is not: RF's mean is of quarters
   pub narrow : ellipfOf (float 0x1ff4_0000_0000_0000) ½ ≡ One (float 0x1ff4_0000_0000_0000)
   -- F(π/4, 1/2) = 0.826017876249245..
   pub eighth : ellipfOf (float 0x3fe9_21fb_5444_2d18) ½ ≡ One (float 0x3fea_6ebd_0a8c_dc3a)
 
 pub ellipf-corners : EllipfCorners
-unfolding largeOf ellipfOf signumOf poleOf farOf middleOf recipeOf closedOf withPeriodsOf reducedOf foldedOf infiniteOf finiteOf settledOf handedOf valueOf sineOf sineAt cosineOf cosineAt upToFour squareOf alternatingOf kUncheckedOf kMeanOf lastMeansOf kFromOf nextOf goesOn goesOnOf arithmeticOf geometricOf Mean.iterate Loop.iterate Loop.duplicated largerOf Rf.rfOf Rf.startOf Rf.stopsOf Rf.nextOf Rf.roundOf Rf.closedOf Rf.seriesOf rootOf magnitudeOf roundOf dec ofBits add sub sum mul div rem neg lt le eq ne round
+unfolding largeOf ellipfOf countedOf signumOf poleOf farOf middleOf recipeOf closedOf withPeriodsOf reducedOf foldedOf infiniteOf finiteOf settledOf handedOf valueOf sineOf sineAt cosineOf cosineAt upToFour squareOf alternatingOf kUncheckedOf kMeanOf lastMeansOf kFromOf nextOf goesOn goesOnOf arithmeticOf geometricOf Mean.iterate Loop.iterate Loop.duplicated largerOf Rf.rfOf Rf.startOf Rf.stopsOf Rf.nextOf Rf.roundOf Rf.closedOf Rf.seriesOf rootOf magnitudeOf roundOf dec ofBits add sub sum mul div rem neg lt le eq ne round
 ellipf-corners =
     record {
       nan-amplitude = refl;
@@ -61,6 +64,8 @@ ellipf-corners =
       minus-zero = refl;
       one-at-minus-infinity = refl;
       zero-at-infinity = refl;
+      three-unasked = refl;
+      bottom-unmet = refl;
       narrow = refl;
       eighth = refl;
     }

@@ -30,15 +30,20 @@ use Rattle.rf.specs.Rf as Rf
 use Rattle.rf.specs.laws.Unmet.{rf-unmet}
 use Rattle.answer.specs.declared.Term.{Term}
 use Rattle.incomplete.specs.declared.Fold.{Fold}
-use Rattle.answer.specs.Settle.{infiniteOf, finiteOf, settledOf, handedOf}
+use Rattle.answer.specs.Settle.{infiniteOf, finiteOf, settledOf, handedOf, unaskedOf}
+use Rattle.answer.specs.declared.Counted.{Counted}
 use Rattle.laws.specs.laws.Kinds.{differs-is}
 use Rattle.incomplete.specs.Period.{far-out, foldedOf}
 use Rattle.incomplete.specs.Scaling.{λ4, largeOf}
-use Rattle.ellipf.specs.Ellipf.{signumOf, poleOf, farOf, middleOf, recipeOf, closedOf, withPeriodsOf, reducedOf, ellipfOf}
+use Rattle.ellipf.specs.Ellipf.{signumOf, poleOf, farOf, middleOf, recipeOf, closedOf, withPeriodsOf, reducedOf, countedOf, ellipfOf}
 use Rattle.whole.specs.laws.Magnitude.{magnitude-inf, magnitude-fin, magnitude-neg}
 use Rattle.laws.specs.laws.Signs.{mul-neg, square-neg, plain, round-plain}
-use Rattle.answer.specs.laws.Odd.{turnOf, same-kind, one-turned, rung, handed-odd}
+use Rattle.answer.specs.laws.Odd.{turnOf, turnedOf, same-kind, one-turned, after, rung, handed-odd}
+use Rattle.answer.specs.laws.Rounds.{answer-of}
 use Rattle.incomplete.specs.laws.Angles.{P, quarter, quarter-finite}
+
+abbrev answer : Counted → Answer
+answer c = c .answer
 
 -- ---- below π/2 the reduction leaves |φ| as it is, with no period term
 rest-itself : (m : ℕ) (e : ℤ) → T (fits binary64 (fin false m e)) → m * up e * 562949953421312 < P * 1 * down e → fin false m e %% π/2 ≡ fin false m e
@@ -89,6 +94,13 @@ unfolding fits
 unsigned s zero e f = f
 unsigned s (suc n) e f = f
 
+reduced-answer : (sign size m : Float) → let f = foldedOf size in let sine = valueOf (sineOf (f .angle)) in
+    reducedOf sign size m .answer ≡ (when 1·0 ≤· m ⊗ (sine ⊗ sine) gives Refused 3 else withPeriodsOf sign m (f .mm) (recipeOf (f .s) m sine (valueOf (cosineOf (f .angle)))))
+unfolding reducedOf
+reduced-answer sign size m =
+    let s = valueOf (sineOf (foldedOf size .angle)) in
+    answer-of (1·0 ≤· m ⊗ (s ⊗ s)) (unaskedOf (Refused 3)) _
+
 -- ellipf without the reduction
 unfoldable pub unreducedOf : Float → Float → Answer
 unreducedOf φ m =
@@ -118,9 +130,10 @@ module _ (φ m : Float) (f : T (fits binary64 φ)) (k : (φ ≠· φ) ≡ false)
 
   -- so the answer has no K in it
   pub without-k : (m ≠· m) ≡ false → (m =· +0) ≡ false → ellipfOf φ m ≡ unreducedOf φ m
-  unfolding ellipfOf reducedOf withPeriodsOf unreducedOf ne ofBits
+  unfolding ellipfOf countedOf withPeriodsOf unreducedOf ne ofBits
   without-k q z =
-      sym (passed _ _ (either (φ ≠· φ) (m ≠· m) k q) (passed _ _ z (passed _ _ p (passed _ _ (no-period .0) refl))))
+      ap answer (sym (passed _ _ (either (φ ≠· φ) (m ≠· m) k q) (passed _ _ z (passed _ _ p (passed _ _ (no-period .0) refl)))))
+      ∙ reduced-answer (signumOf φ) (magnitudeOf φ) m
       ∙ ap (λ (f : Fold). cond (1·0 ≤· m ⊗ (valueOf (sineOf (f .angle)) ⊗ valueOf (sineOf (f .angle)))) (Refused 3) (withPeriodsOf (signumOf φ) m (f .mm) (recipeOf (f .s) m (valueOf (sineOf (f .angle))) (valueOf (cosineOf (f .angle)))))) (no-period .1)
     where
       either : (a b : Bool) → a ≡ false → b ≡ false → (a || b) ≡ false
@@ -138,19 +151,19 @@ neither : (a b : Bool) → a ≡ false → b ≡ false → (a || b) ≡ false
 neither a b e h = ap₂ (λ (a b : Bool). a || b) e h
 
 pub no-parameter : (φ m : Float) → T (finite φ) → (m =· +0) ≡ true → ellipfOf φ m ≡ One φ
-unfolding ellipfOf handedOf isNan
-no-parameter (fin s n e) m f z = sym (passed _ _ (neither _ _ (differs-is (fin s n e)) (zero-number m z)) (held _ _ z refl))
+unfolding ellipfOf countedOf handedOf isNan
+no-parameter (fin s n e) m f z = ap answer (sym (passed _ _ (neither _ _ (differs-is (fin s n e)) (zero-number m z)) (held _ _ z refl)))
 
 -- ---- F(±∞, m) = ±∞ where m < 1
 pub at-infinity : (s : Bool) (m : Float) → (m ≠· m) ≡ false → (1·0 ≤· m) ≡ false → ellipfOf (inf s) m ≡ Infinite s
-unfolding ellipfOf poleOf isNan
+unfolding ellipfOf countedOf poleOf isNan
 at-infinity s m k h =
-    sym (passed _ _ (neither _ _ (differs-is (inf s)) k) refl)
-    ∙ ap (λ (t : Bool). cond (m =· +0) (handedOf (inf s)) (cond (t && (π/2 ≤· magnitudeOf (inf s) || 1·0 ≤· m ⊗ (valueOf (sineOf (inf s)) ⊗ valueOf (sineOf (inf s))))) (Refused 3) (cond (far-out <· magnitudeOf (inf s)) (farOf (signumOf (inf s)) (magnitudeOf (inf s)) m) (reducedOf (signumOf (inf s)) (magnitudeOf (inf s)) m)))) h
-    ∙ ap (λ (a : Float). cond (m =· +0) (handedOf (inf s)) (cond (far-out <· a) (farOf (signumOf (inf s)) a m) (reducedOf (signumOf (inf s)) a m))) (magnitude-inf s)
-    ∙ go (m =· +0) s
+    ap answer (sym (passed _ _ (neither _ _ (differs-is (inf s)) k) refl)
+    ∙ ap (λ (t : Bool). cond (m =· +0) (unaskedOf (handedOf (inf s))) (cond (t && (π/2 ≤· magnitudeOf (inf s) || 1·0 ≤· m ⊗ (valueOf (sineOf (inf s)) ⊗ valueOf (sineOf (inf s))))) (unaskedOf (Refused 3)) (cond (far-out <· magnitudeOf (inf s)) (unaskedOf (farOf (signumOf (inf s)) (magnitudeOf (inf s)) m)) (reducedOf (signumOf (inf s)) (magnitudeOf (inf s)) m)))) h
+    ∙ ap (λ (a : Float). cond (m =· +0) (unaskedOf (handedOf (inf s))) (cond (far-out <· a) (unaskedOf (farOf (signumOf (inf s)) a m)) (reducedOf (signumOf (inf s)) a m))) (magnitude-inf s)
+    ∙ go (m =· +0) s)
   where
-    go : (z s : Bool) → cond z (handedOf (inf s)) (cond (far-out <· inf false) (farOf (signumOf (inf s)) (inf false) m) (reducedOf (signumOf (inf s)) (inf false) m)) ≡ Infinite s
+    go : (z s : Bool) → cond z (unaskedOf (handedOf (inf s))) (cond (far-out <· inf false) (unaskedOf (farOf (signumOf (inf s)) (inf false) m)) (reducedOf (signumOf (inf s)) (inf false) m)) ≡ unaskedOf (Infinite s)
     go true s = unfold handedOf in refl
     go false true = unfold handedOf farOf signumOf lt eq mul neg ofBits in refl
     go false false = unfold handedOf farOf signumOf lt eq mul neg ofBits in refl
@@ -262,13 +275,13 @@ periods-zero sign mm t h = go (mm ≠· +0)
     go true = closed-zero (t .met) _ h
     go false = closed-zero (t .met) _ h
 
-reduced-zero : (sign size : Float) → reducedOf sign size -∞ ≡ One +0
+reduced-zero : (sign size : Float) → reducedOf sign size -∞ .answer ≡ One +0
 unfolding reducedOf
-reduced-zero sign size = sym (passed _ _ (square-three (valueOf (sineOf (foldedOf size .angle)))) (sym (periods-zero sign _ _ (never-met _ _ _))))
+reduced-zero sign size = ap answer (sym (passed _ _ (square-three (valueOf (sineOf (foldedOf size .angle)))) refl)) ∙ periods-zero sign _ _ (never-met _ _ _)
 
 pub at-minus-infinity : (φ : Float) → (φ ≠· φ) ≡ false → (far-out <· magnitudeOf φ) ≡ false → ellipfOf φ -∞ ≡ One +0
-unfolding ellipfOf poleOf ne le lt eq ofBits
-at-minus-infinity φ k h = sym (passed _ _ (neither _ _ k refl) (passed _ _ h (sym (reduced-zero (signumOf φ) (magnitudeOf φ)))))
+unfolding ellipfOf countedOf poleOf ne le lt eq ofBits
+at-minus-infinity φ k h = ap answer (sym (passed _ _ (neither _ _ k refl) (passed _ _ h refl))) ∙ reduced-zero (signumOf φ) (magnitudeOf φ)
 
 -- ---- F(±0, m) = ±0 for every finite m
 abbrev zero-of : Bool → Float
@@ -292,14 +305,14 @@ under-one false = refl
 
 -- RF(1, 1, 1) is 1
 homogeneous : Float → Term
-homogeneous z = record { value = 1·0 ⊗ +0 ⊗ rfOf (1·0 ⊗ 1·0) (1·0 ⊖ z) 1·0 .value; met = rfOf (1·0 ⊗ 1·0) (1·0 ⊖ z) 1·0 .met }
+homogeneous z = record { value = 1·0 ⊗ +0 ⊗ rfOf (1·0 ⊗ 1·0) (1·0 ⊖ z) 1·0 .value; met = rfOf (1·0 ⊗ 1·0) (1·0 ⊖ z) 1·0 .met; rounds = rfOf (1·0 ⊗ 1·0) (1·0 ⊖ z) 1·0 .rounds }
 
-homogeneous-zero : (t : Bool) → homogeneous (zero-of t ⊗ +0) ≡ record { value = +0; met = true }
+homogeneous-zero : (t : Bool) → homogeneous (zero-of t ⊗ +0) ≡ record { value = +0; met = true; rounds = 0 }
 unfolding homogeneous rfOf duplicated iterate startOf stopsOf Rf.closedOf seriesOf largerOf magnitudeOf rootOf add sub mul div neg lt eq ofBits round sum
 homogeneous-zero true = refl
 homogeneous-zero false = refl
 
-recipe-zero : (t : Bool) (k : ℕ) (d : ℤ) → recipeOf 1·0 (fin t k d) +0 1·0 ≡ record { value = +0; met = true }
+recipe-zero : (t : Bool) (k : ℕ) (d : ℤ) → recipeOf 1·0 (fin t k d) +0 1·0 ≡ record { value = +0; met = true; rounds = 0 }
 unfolding recipeOf homogeneous infiniteOf mul div ofBits
 recipe-zero t k d = ap (λ (z : Float). homogeneous (z ⊗ +0)) (times-zero t k d) ∙ homogeneous-zero t
 
@@ -338,34 +351,36 @@ no-pole s t k d =
     go true = refl
     go false = refl
 
-reduced-at-zero : (sign : Float) (t : Bool) (k : ℕ) (d : ℤ) → reducedOf sign +0 (fin t k d) ≡ closedOf (fin t k d) true (sign ⊗ +0)
+reduced-at-zero : (sign : Float) (t : Bool) (k : ℕ) (d : ℤ) → reducedOf sign +0 (fin t k d) ≡ unaskedOf (closedOf (fin t k d) true (sign ⊗ +0))
 unfolding reducedOf withPeriodsOf valueOf
 reduced-at-zero sign t k d =
     ap (λ (f : Fold). by f (sineOf (f .angle)) (cosineOf (f .angle))) folded-zero
     ∙ ap₂ (λ (a b : Answer). by (record { angle = +0; mm = +0; s = 1·0 }) a b) sine-zero cosine-of-zero
     ∙ sym (passed _ _ (ap (λ (x : Float). 1·0 ≤· m ⊗ x) square ∙ ap (λ (x : Float). 1·0 ≤· x) (times-zero t k d) ∙ under-one t) refl)
-    ∙ ap (λ (r : Term). withPeriodsOf sign m +0 r) (recipe-zero t k d)
+    ∙ ap (λ (r : Term). record { answer = withPeriodsOf sign m +0 r; rounds = r .rounds }) (recipe-zero t k d)
     ∙ none
   where
     m : Float
     m = fin t k d
 
-    by : Fold → Answer → Answer → Answer
-    by f a b = cond (1·0 ≤· m ⊗ (valueOf a ⊗ valueOf a)) (Refused 3) (withPeriodsOf sign m (f .mm) (recipeOf (f .s) m (valueOf a) (valueOf b)))
+    by : Fold → Answer → Answer → Counted
+    by f a b =
+        let t = recipeOf (f .s) m (valueOf a) (valueOf b) in
+        cond (1·0 ≤· m ⊗ (valueOf a ⊗ valueOf a)) (unaskedOf (Refused 3)) (record { answer = withPeriodsOf sign m (f .mm) t; rounds = t .rounds })
 
     square : +0 ⊗ +0 ≡ +0
     square = unfold mul ofBits round in refl
 
-    none : withPeriodsOf sign m +0 (record { value = +0; met = true }) ≡ closedOf m true (sign ⊗ +0)
+    none : unaskedOf (withPeriodsOf sign m +0 (record { value = +0; met = true; rounds = 0 })) ≡ unaskedOf (closedOf m true (sign ⊗ +0))
     none = unfold withPeriodsOf ne eq ofBits in refl
 
 pub at-zero : (s t : Bool) (k : ℕ) (d : ℤ) → ellipfOf (zero-of s) (fin t k d) ≡ One (zero-of s)
-unfolding ellipfOf isNan
+unfolding ellipfOf countedOf isNan
 at-zero s t k d =
-    sym (passed _ _ (neither _ _ (differs-is (zero-of s)) (differs-is m)) refl)
-    ∙ ap₂ (λ (p : Bool) (a : Float). cond (m =· +0) (handedOf (zero-of s)) (cond p (Refused 3) (cond (far-out <· a) (farOf (signumOf (zero-of s)) a m) (reducedOf (signumOf (zero-of s)) a m)))) (no-pole s t k d) (magnitude-fin s 0 (pos 0))
-    ∙ ap (λ (b : Bool). cond (m =· +0) (handedOf (zero-of s)) (cond b (farOf (signumOf (zero-of s)) (zero-of false) m) (reducedOf (signumOf (zero-of s)) (zero-of false) m))) near-zero
-    ∙ go (m =· +0) (reduced-at-zero (signumOf (zero-of s)) t k d ∙ closed s)
+    ap answer (sym (passed _ _ (neither _ _ (differs-is (zero-of s)) (differs-is m)) refl)
+    ∙ ap₂ (λ (p : Bool) (a : Float). cond (m =· +0) (unaskedOf (handedOf (zero-of s))) (cond p (unaskedOf (Refused 3)) (cond (far-out <· a) (unaskedOf (farOf (signumOf (zero-of s)) a m)) (reducedOf (signumOf (zero-of s)) a m)))) (no-pole s t k d) (magnitude-fin s 0 (pos 0))
+    ∙ ap (λ (b : Bool). cond (m =· +0) (unaskedOf (handedOf (zero-of s))) (cond b (unaskedOf (farOf (signumOf (zero-of s)) (zero-of false) m)) (reducedOf (signumOf (zero-of s)) (zero-of false) m))) near-zero
+    ∙ go (m =· +0) (reduced-at-zero (signumOf (zero-of s)) t k d ∙ ap unaskedOf (closed s)))
   where
     m : Float
     m = fin t k d
@@ -377,7 +392,7 @@ at-zero s t k d =
     closed true = unfold closedOf settledOf finiteOf signumOf infiniteOf mul neg eq ofBits round in refl
     closed false = unfold closedOf settledOf finiteOf signumOf infiniteOf mul neg eq ofBits round in refl
 
-    go : (z : Bool) → reducedOf (signumOf (zero-of s)) +0 m ≡ One (zero-of s) → cond z (handedOf (zero-of s)) (reducedOf (signumOf (zero-of s)) (zero-of false) m) ≡ One (zero-of s)
+    go : (z : Bool) → reducedOf (signumOf (zero-of s)) +0 m ≡ unaskedOf (One (zero-of s)) → cond z (unaskedOf (handedOf (zero-of s))) (reducedOf (signumOf (zero-of s)) (zero-of false) m) ≡ unaskedOf (One (zero-of s))
     go true h = unfold handedOf in refl
     go false h = unfold ofBits in h
 
@@ -390,7 +405,7 @@ finite-odd (fin s n e) = refl
 
 settled-odd : (met : Bool) (v : Float) → settledOf met (neg v) ≡ turnOf (settledOf met v)
 unfolding settledOf turnOf
-settled-odd met v = rung (not met) (not met) (Refused 5) (finiteOf (neg v)) (Refused 5) (finiteOf v) refl refl (finite-odd v)
+settled-odd met v = rung turnOf (not met) (not met) (Refused 5) (finiteOf (neg v)) (Refused 5) (finiteOf v) refl refl (finite-odd v)
 
 closed-settled : (m : Float) (met : Bool) (v : Float) → (m =· -∞) ≡ false → closedOf m met v ≡ settledOf met v
 unfolding closedOf
@@ -401,17 +416,17 @@ closed-odd m met u v h e = ap (closedOf m met) e ∙ closed-settled m met (neg v
 
 periods-odd : (sign m mm : Float) (t : Term) → (m =· -∞) ≡ false → withPeriodsOf (neg sign) m mm t ≡ turnOf (withPeriodsOf sign m mm t)
 unfolding withPeriodsOf
-periods-odd sign m mm t h = rung (mm ≠· +0) (mm ≠· +0) _ _ _ _ refl (closed-odd m (t .met) _ _ h (mul-neg binary64 sign _)) (closed-odd m (t .met) _ _ h (mul-neg binary64 sign _))
+periods-odd sign m mm t h = rung turnOf (mm ≠· +0) (mm ≠· +0) _ _ _ _ refl (closed-odd m (t .met) _ _ h (mul-neg binary64 sign _)) (closed-odd m (t .met) _ _ h (mul-neg binary64 sign _))
 
-reduced-odd : (sign size m : Float) → (m =· -∞) ≡ false → reducedOf (neg sign) size m ≡ turnOf (reducedOf sign size m)
+reduced-odd : (sign size m : Float) → (m =· -∞) ≡ false → reducedOf (neg sign) size m ≡ turnedOf (reducedOf sign size m)
 unfolding reducedOf turnOf
 reduced-odd sign size m h =
     let s = valueOf (sineOf (foldedOf size .angle)) in
-    rung (1·0 ≤· m ⊗ (s ⊗ s)) (1·0 ≤· m ⊗ (s ⊗ s)) _ _ _ _ refl refl (periods-odd sign m _ _ h)
+    rung turnedOf (1·0 ≤· m ⊗ (s ⊗ s)) (1·0 ≤· m ⊗ (s ⊗ s)) _ _ _ _ refl refl (after _ (periods-odd sign m _ _ h))
 
 far-odd : (sign size m : Float) → farOf (neg sign) size m ≡ turnOf (farOf sign size m)
 unfolding farOf
-far-odd sign size m = rung (size =· +∞) (size =· +∞) _ _ _ _ refl (handed-odd _ _ (mul-neg binary64 sign +∞)) (handed-odd _ _ (ap (λ (x : Float). x ⊗ q) (mul-neg binary64 sign size) ∙ mul-neg binary64 (sign ⊗ size) q))
+far-odd sign size m = rung turnOf (size =· +∞) (size =· +∞) _ _ _ _ refl (handed-odd _ _ (mul-neg binary64 sign +∞)) (handed-odd _ _ (ap (λ (x : Float). x ⊗ q) (mul-neg binary64 sign size) ∙ mul-neg binary64 (sign ⊗ size) q))
   where
     q : Float
     q = kUncheckedOf m ⊘ π/2
@@ -427,18 +442,23 @@ pole-even φ m = ap₂ (λ (a x : Float). 1·0 ≤· m && (π/2 ≤· a || 1·0 
     value-neg (Infinite s) = unfold valueOf negated neg in refl
     value-neg (Refused n) = unfold valueOf negated neg in refl
 
-odd-of : (φ m : Float) → signumOf (neg φ) ≡ neg (signumOf φ) → (m =· -∞) ≡ false → ellipfOf (neg φ) m ≡ turnOf (ellipfOf φ m)
-unfolding ellipfOf turnOf
+odd-of : (φ m : Float) → signumOf (neg φ) ≡ neg (signumOf φ) → (m =· -∞) ≡ false → countedOf (neg φ) m ≡ turnedOf (countedOf φ m)
+unfolding countedOf turnOf
 odd-of φ m g h =
-    rung _ (φ ≠· φ || m ≠· m) _ _ _ _ (ap (λ (b : Bool). b || m ≠· m) (same-kind φ)) refl
-    (rung (m =· +0) (m =· +0) _ _ _ _ refl (handed-odd _ φ refl)
-    (rung _ (poleOf φ m) _ _ _ _ (pole-even φ m) refl
-    (rung _ (far-out <· magnitudeOf φ) _ _ _ _ (ap (λ (a : Float). far-out <· a) (magnitude-neg φ))
-    (ap₂ (λ (s a : Float). farOf s a m) g (magnitude-neg φ) ∙ far-odd (signumOf φ) (magnitudeOf φ) m)
+    rung turnedOf _ (φ ≠· φ || m ≠· m) _ _ _ _ (ap (λ (b : Bool). b || m ≠· m) (same-kind φ)) refl
+    (rung turnedOf (m =· +0) (m =· +0) _ _ _ _ refl (after 0 (handed-odd _ φ refl))
+    (rung turnedOf _ (poleOf φ m) _ _ _ _ (pole-even φ m) refl
+    (rung turnedOf _ (far-out <· magnitudeOf φ) _ _ _ _ (ap (λ (a : Float). far-out <· a) (magnitude-neg φ))
+    (after 0 (ap₂ (λ (s a : Float). farOf s a m) g (magnitude-neg φ) ∙ far-odd (signumOf φ) (magnitudeOf φ) m))
     (ap₂ (λ (s a : Float). reducedOf s a m) g (magnitude-neg φ) ∙ reduced-odd (signumOf φ) (magnitudeOf φ) m h))))
 
-pub odd : (φ m : Float) → (m =· -∞) ≡ false → ellipfOf (neg φ) m ≡ turnOf (ellipfOf φ m)
+-- after as many rounds
+pub counted-odd : (φ m : Float) → (m =· -∞) ≡ false → countedOf (neg φ) m ≡ turnedOf (countedOf φ m)
 unfolding signumOf neg
-odd nan m h = unfold ellipfOf turnOf ne eq in refl
-odd (inf s) m h = odd-of (inf s) m (one-turned s) h
-odd (fin s n e) m h = odd-of (fin s n e) m (one-turned s) h
+counted-odd nan m h = unfold countedOf turnOf ne eq in refl
+counted-odd (inf s) m h = odd-of (inf s) m (one-turned s) h
+counted-odd (fin s n e) m h = odd-of (fin s n e) m (one-turned s) h
+
+pub odd : (φ m : Float) → (m =· -∞) ≡ false → ellipfOf (neg φ) m ≡ turnOf (ellipfOf φ m)
+unfolding ellipfOf
+odd φ m h = ap answer (counted-odd φ m h)

@@ -1,5 +1,6 @@
 -- Where neither run of RF loses digits to the ends of the range, dividing its arguments by λ changes no bit. Assumes nothing.
 use mathlib.Core.Path.{_≡_, refl, sym}
+use Prim.Native.Nat.{ℕ}
 use mathlib.Core.Bool.{Bool, true, false, cond}
 use lib.Ieee.{Float, ofBits}
 use Rattle.laws.specs.Arithmetic.{_⊗_, _⊘_, 1·0}
@@ -22,7 +23,7 @@ rf-over x y z c =
 
 -- the term without λ
 abbrev pub plainOf : Float → Float → Float → Float → Float → Term
-plainOf s m c c1 y = record { value = s ⊗ rfOf c1 y c .value; met = rfOf c1 y c .met }
+plainOf s m c c1 y = record { value = s ⊗ rfOf c1 y c .value; met = rfOf c1 y c .met; rounds = rfOf c1 y c .rounds }
 
 -- so the large arguments' way is the plain one's there
 pub recipe-plain : (s m sine cosine : Float) → let c = 1·0 ⊘ (sine ⊗ sine) in let c1 = cosine ⊗ cosine ⊘ (sine ⊗ sine) in let y = middleOf m c c1 in
@@ -33,8 +34,8 @@ recipe-plain s m sine cosine f h =
     let c1 = cosine ⊗ cosine ⊘ (sine ⊗ sine) in
     let y = middleOf m c c1 in
     let r = rf-over c1 y c h in
-    rw f (go s (largeOf m c) (rfOf (c1 ⊘ λ4) (y ⊘ λ4) (c ⊘ λ4) .value ⊘ √λ) (rfOf c1 y c .value) (rfOf (c1 ⊘ λ4) (y ⊘ λ4) (c ⊘ λ4) .met) (rfOf c1 y c .met) (r .value) (r .met))
+    rw f (go s (largeOf m c) (rfOf (c1 ⊘ λ4) (y ⊘ λ4) (c ⊘ λ4) .value ⊘ √λ) (rfOf c1 y c .value) (rfOf (c1 ⊘ λ4) (y ⊘ λ4) (c ⊘ λ4) .met) (rfOf c1 y c .met) (rfOf (c1 ⊘ λ4) (y ⊘ λ4) (c ⊘ λ4) .rounds) (rfOf c1 y c .rounds) (r .value) (r .met) (r .rounds))
   where
-    go : (s : Float) (b : Bool) (v w : Float) (k l : Bool) → w ≡ v → l ≡ k → cond {A = Term} b (record { value = s ⊗ v; met = k }) (record { value = s ⊗ w; met = l }) ≡ record { value = s ⊗ w; met = l }
-    go s true v w k l e g = λ i. record { value = s ⊗ sym e i; met = sym g i }
-    go s false v w k l e g = refl
+    go : (s : Float) (b : Bool) (v w : Float) (k l : Bool) (i j : ℕ) → w ≡ v → l ≡ k → j ≡ i → cond {A = Term} b (record { value = s ⊗ v; met = k; rounds = i }) (record { value = s ⊗ w; met = l; rounds = j }) ≡ record { value = s ⊗ w; met = l; rounds = j }
+    go s true v w k l i j e g h = λ p. record { value = s ⊗ sym e p; met = sym g p; rounds = sym h p }
+    go s false v w k l i j e g h = refl

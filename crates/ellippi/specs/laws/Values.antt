@@ -6,44 +6,44 @@ use lib.Ieee.{Float, binary64, fits, ofBits}
 use lib.Ieee.Fits.{add-fits, mul-fits, div-fits}
 use Rattle.laws.specs.Arithmetic.{_⊖_, _<·_, _=·_, _≠·_, +0, -∞, 1·0}
 use Rattle.answer.specs.Answer.{valueOf}
-use Rattle.answer.specs.declared.Answer.{Answer}
+use Rattle.answer.specs.declared.Counted.{Counted}
 use Rattle.answer.specs.declared.Answer.the-variants.{Infinite}
 use Rattle.answer.specs.declared.Term.{Term}
-use Rattle.answer.specs.laws.Fair.{May, Fair, among, refused, answered, rung, settled-fair}
+use Rattle.answer.specs.Settle.{unaskedOf}
+use Rattle.answer.specs.laws.Fair.{May, Fair, FairOf, among, refused, answered, rung, settled-fair}
 use Rattle.legendre.specs.Ellipk.{ellipkOf}
-use Rattle.ellippi.specs.Ellippi.{fromRestOf, principalOf, bothBelowOf, firstBelowOf, firstZeroOf, diagonalOf, armsOf, ellippiOf}
+use Rattle.ellippi.specs.Ellippi.{fromRestOf, principalOf, bothBelowOf, firstBelowOf, firstZeroOf, diagonalOf, armsOf, countedOf, ellippiOf}
 
 abbrev pub ellippi-may : Bool → May
 ellippi-may one = record { tests = 1 ∷ 2 ∷ 4 ∷ []; infinite = one }
 
 -- ---- infinite only where m is 1
-at-one : (t s : Bool) (a : Answer) → Fair (ellippi-may false) a → Fair (ellippi-may t) (cond t (Infinite s) a)
+at-one : (t s : Bool) (c : Counted) → FairOf (ellippi-may false) c → FairOf (ellippi-may t) (cond t (unaskedOf (Infinite s)) c)
 unfolding Fair
-at-one true s a h = tt
-at-one false s a h = h
+at-one true s c h = tt
+at-one false s c h = h
 
-fit-rung : (t : Bool) (a b : Term) → T (fits binary64 (a .value)) → T (fits binary64 (b .value)) → T (fits binary64 (cond t a b .value))
-fit-rung true a b p q = p
-fit-rung false a b p q = q
+Fits : Term → Type 0
+Fits t = T (fits binary64 (t .value))
 
-arms-fit : (n m : Float) → T (fits binary64 (valueOf (ellipkOf m))) → T (fits binary64 (armsOf n m .value))
-unfolding armsOf principalOf bothBelowOf firstBelowOf firstZeroOf diagonalOf fromRestOf ofBits fits
+arms-fit : (n m : Float) → T (fits binary64 (valueOf (ellipkOf m))) → Fits (armsOf n m)
+unfolding armsOf principalOf bothBelowOf firstBelowOf firstZeroOf diagonalOf fromRestOf Fits ofBits fits
 arms-fit n m K =
-    fit-rung (1·0 <· n) _ _ (mul-fits binary64 _ _)
-    (fit-rung (n <· +0 && m <· +0) _ _ (fit-rung (m =· n) _ _ (div-fits binary64 _ _) (add-fits binary64 _ _))
-    (fit-rung (n <· +0) _ _ (add-fits binary64 _ _)
-    (fit-rung (n =· +0) _ _ (fit-rung (m =· +0) _ _ tt K)
-    (fit-rung (m =· n) _ _ (mul-fits binary64 _ _)
+    rung Fits (1·0 <· n) _ _ (mul-fits binary64 _ _)
+    (rung Fits (n <· +0 && m <· +0) _ _ (rung Fits (m =· n) _ _ (div-fits binary64 _ _) (add-fits binary64 _ _))
+    (rung Fits (n <· +0) _ _ (add-fits binary64 _ _)
+    (rung Fits (n =· +0) _ _ (rung Fits (m =· +0) _ _ tt K)
+    (rung Fits (m =· n) _ _ (mul-fits binary64 _ _)
     (add-fits binary64 _ _)))))
 
 pub ellippi-fair : (n m : Float) → T (fits binary64 (valueOf (ellipkOf m))) → Fair (ellippi-may (m =· 1·0)) (ellippiOf n m)
-unfolding ellippiOf ofBits fits among
+unfolding ellippiOf countedOf Fits ofBits fits among
 ellippi-fair n m K =
     let one = m =· 1·0 in
     let may = ellippi-may one in
     let no = ellippi-may false in
-    rung may (n ≠· n || m ≠· m) _ _ (refused may 1 tt)
-    (rung may (1·0 <· m) _ _ (refused may 2 tt)
-    (rung may (n =· 1·0) _ _ (refused may 4 tt)
+    rung (FairOf may) (n ≠· n || m ≠· m) _ _ (refused may 1 tt)
+    (rung (FairOf may) (1·0 <· m) _ _ (refused may 2 tt)
+    (rung (FairOf may) (n =· 1·0) _ _ (refused may 4 tt)
     (at-one one (1·0 ⊖ n <· +0) _
-    (rung no (n =· -∞ || m =· -∞) _ _ (answered no +0 tt) (settled-fair no _ _ (arms-fit n m K))))))
+    (rung (FairOf no) (n =· -∞ || m =· -∞) _ _ (answered no +0 tt) (settled-fair no _ _ (arms-fit n m K))))))

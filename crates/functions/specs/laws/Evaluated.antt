@@ -1,5 +1,5 @@
 -- What the sheet needs of every function, by one law over the function number. Assumes nothing.
-use mathlib.Core.Path.{_≡_, refl, sym, subst}
+use mathlib.Core.Path.{_≡_, refl, sym, ap, subst}
 use mathlib.Core.Bool.{Bool, true, false, not, cond}
 use Prim.Native.Nat.{ℕ, suc, _≤_, _<_, zero-le}
 use native.Mathlib.Nat.{not-le-of-lt}
@@ -15,12 +15,17 @@ use Rattle.answer.specs.Sound.{Sound}
 use Rattle.answer.specs.laws.Sound as sound
 use Rattle.answer.specs.laws.Fair.{numeric, fair-sound}
 use Rattle.answer.specs.declared.Answer.{Answer}
+use Rattle.answer.specs.declared.Counted.{Counted}
+use Rattle.answer.specs.Settle.{unaskedOf}
 use Rattle.answer.specs.declared.Answer.the-variants.{One, Pair, Infinite, Refused}
 use Rattle.legendre.specs.laws.Values.{ellipk-answers, ellipe-answers, ellipke-answers}
 use Rattle.ellippi.specs.laws.Values.{ellippi-may, ellippi-fair}
 use Rattle.ellipeinc.specs.laws.Values.{ellipeinc-may, ellipeinc-fair}
 use Rattle.ellipf.specs.laws.Values.{ellipf-may, ellipf-fair}
-use Rattle.functions.specs.Functions.{evaluateOf}
+use Rattle.ellippi.specs.Ellippi.{ellippiOf}
+use Rattle.ellipeinc.specs.Ellipeinc.{ellipeincOf}
+use Rattle.ellipf.specs.Ellipf.{ellipfOf}
+use Rattle.functions.specs.Functions.{countedOf, evaluateOf}
 
 zero-sound : Sound (One +0)
 unfolding Sound ofBits
@@ -34,19 +39,19 @@ value-fits (Infinite t) s = tt
 value-fits (Refused n) s = tt
 
 -- down the numbers: what the function of number k answers, and what is left above it
-rung : (f k : ℕ) (a b : Answer) → k ≤ f → Sound a → (suc k ≤ f → Sound b) → Sound (cond (eqb f k) a b)
+rung : (f k : ℕ) (a b : Counted) → k ≤ f → Sound (a .answer) → (suc k ≤ f → Sound (b .answer)) → Sound (cond (eqb f k) a b .answer)
 rung f k a b l p q = go (eqb f k) refl
   where
     above : (f ≡ k → ⊥) → suc k ≤ f
     above n = omega arith
 
-    go : (t : Bool) → eqb f k ≡ t → Sound (cond t a b)
+    go : (t : Bool) → eqb f k ≡ t → Sound (cond t a b .answer)
     go true e = p
     go false e = q (above (eqb-false f k e))
 
 -- every function's answer is sound
 pub evaluated-sound : (f a b c : ℕ) → f ≤ last → Sound (evaluateOf f a b c)
-unfolding evaluateOf numeric stored
+unfolding evaluateOf countedOf ellippiOf ellipeincOf ellipfOf numeric stored
 evaluated-sound f a b c h =
     let x = float a in
     let y = float b in
@@ -61,9 +66,13 @@ evaluated-sound f a b c h =
     absurd (not-le-of-lt l7 h))))))))
 
 -- and a number above the last has none
+pub counted-beyond : (f a b c : ℕ) → last < f → countedOf f a b c ≡ unaskedOf (Refused 9)
+unfolding countedOf
+counted-beyond f a b c h = rw (ne-eqb f 0 (λ e. omega arith), ne-eqb f 1 (λ e. omega arith), ne-eqb f 2 (λ e. omega arith), ne-eqb f 3 (λ e. omega arith), ne-eqb f 4 (λ e. omega arith), ne-eqb f 5 (λ e. omega arith), ne-eqb f 6 (λ e. omega arith))
+
 pub beyond : (f a b c : ℕ) → last < f → evaluateOf f a b c ≡ Refused 9
 unfolding evaluateOf
-beyond f a b c h = rw (ne-eqb f 0 (λ e. omega arith), ne-eqb f 1 (λ e. omega arith), ne-eqb f 2 (λ e. omega arith), ne-eqb f 3 (λ e. omega arith), ne-eqb f 4 (λ e. omega arith), ne-eqb f 5 (λ e. omega arith), ne-eqb f 6 (λ e. omega arith))
+beyond f a b c h = ap (λ (r : Counted). r .answer) (counted-beyond f a b c h)
 
 -- what holds of every sound answer and of refusal 9 holds of every evaluation
 each : (P : Answer → Type 0) → ((z : Answer) → Sound z → P z) → P (Refused 9) → (f a b c : ℕ) → P (evaluateOf f a b c)

@@ -13,7 +13,7 @@ use Rattle.legendre.specs.Ellipke.{ellipkeOf}
 use Rattle.ellippi.specs.Ellippi.{ellippiOf}
 use Rattle.ellipeinc.specs.Ellipeinc.{ellipeincOf}
 use Rattle.ellipf.specs.Ellipf.{ellipfOf}
-use Rattle.functions.specs.Functions.{evaluateOf}
+use Rattle.functions.specs.Functions.{countedOf, evaluateOf}
 
 abbrev amplitude : ℕ → Amplitude
 amplitude p = record { 0 = float p }
@@ -52,5 +52,5 @@ pub record Sorts (a b c : ℕ) : Type 0 where
   pub incomplete-first : evaluateOf 6 a b c ≡ f (amplitude a) (parameter b)
 
 pub sorts : (a b c : ℕ) → Sorts a b c
-unfolding evaluateOf
+unfolding evaluateOf countedOf ellippiOf ellipeincOf ellipfOf
 sorts a b c = record { first = refl; second = refl; both = refl; third = refl; incomplete = refl; incomplete-first = refl }

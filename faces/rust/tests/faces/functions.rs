@@ -3,7 +3,7 @@ use crate::lent;
 use crate::model::{self, LARGEST, LAST, MINUS, NAN, ONE, PLUS, SIGN, TWO, WITHDRAWN};
 use crate::random::Random;
 use shuttlemint::integrals::{ellipe, ellipeinc, ellipf, ellipk, ellipke, ellippi};
-use shuttlemint::{evaluate, Refusal, StrErr};
+use shuttlemint::{evaluate, rounds, Refusal, StrErr};
 
 /// Holds one evaluation, by both faces, to the rules.
 pub fn check(function: u8, arguments: [u64; 3], other: [u64; 3]) -> u8 {
@@ -107,6 +107,22 @@ fn ellip_names() {
         one(5, ellipeinc(x, y));
         one(6, ellipf(x, y));
         assert_eq!(ellipke(x).map(|(k, e)| [k.to_bits(), e.to_bits()]), evaluate(3, a, b, 0));
+    }
+}
+
+#[test]
+fn rounds_of_all_recipes() {
+    let [n, m] = [-2f64.powi(-900), -2f64.powi(682)].map(f64::to_bits);
+    assert_eq!(rounds(4, n, m, NAN), 77); // RJ has 13, an RC inside it 64
+    assert_eq!(evaluate(4, n, m, 0), Err(Refusal::NOT_SETTLED));
+    let [x, y, far] = [0.25, 0.5, f64::NEG_INFINITY].map(f64::to_bits);
+    assert_eq!(rounds(6, x, far, 0), 64);
+    for function in [0, 1, 2, 3, LAST + 1, 255] {
+        assert_eq!(rounds(function, x, y, 0), 0);
+    }
+    for function in 4..=LAST {
+        assert!(rounds(function, x, y, 0) > 0);
+        assert_eq!(rounds(function, NAN, y, 0), 0);
     }
 }
 

@@ -35,7 +35,7 @@ def tables(name):
     out = []
     for names, rows in groups:
         out += [f'| `{name}` | ' + ' | '.join(names) + ' |', '|---' * (len(names) + 1) + '|']
-        out += [f'| {title} | ' + ' | '.join(number(t) for _, t in times) + ' |' for title, times in rows] + ['']
+        out += ['| ' + title.replace('|', '\\|') + ' | ' + ' | '.join(number(t) for _, t in times) + ' |' for title, times in rows] + ['']
     return out
 
 

@@ -1,7 +1,7 @@
 #!/usr/bin/env python3
 """oracle/gate_table.py LOG: the table of crates in docs/MEASURED.md, from what the gate printed (.ci/run keeps it as target/gate.log).
 oracle/gate_table.py LOG --write puts it into docs/MEASURED.md, between its two marks.
-A crate's line has the seconds of its check, its wrong programs and the seconds that they took, and its lines of code, definitions, laws and proofs. Seconds are the gate's own, two checks at a time."""
+A crate's line has the seconds of its check, its wrong programs and the seconds that they took, and its lines of code, definitions, laws and proofs. Seconds are the gate's own, one check more at a time than there are processors."""
 import os, re, sys
 
 root = os.path.join(os.path.dirname(os.path.abspath(__file__)), '..')

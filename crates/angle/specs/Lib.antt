@@ -3,4 +3,3 @@ pub mod Series
 pub mod Alternating
 pub mod Sine
 pub mod Cosine
-pub mod laws

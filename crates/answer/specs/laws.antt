@@ -2,5 +2,4 @@
 pub mod Sound
 pub mod Tests
 pub mod Fair
-pub mod Odd
 pub mod Rounds

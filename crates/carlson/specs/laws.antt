@@ -2,5 +2,3 @@
 pub mod Duplication
 pub mod Together
 pub mod Counts
-pub mod Unmet
-pub mod Scaled

@@ -5,5 +5,4 @@ pub mod Demand2
 pub mod Demand3
 pub mod Shuffles
 pub mod ShuffledEdits
-pub mod Corners
 pub mod laws

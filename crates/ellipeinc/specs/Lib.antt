@@ -1,4 +1,3 @@
 -- What the contract cites (Ellipeinc), and what is proved of it (laws).
 pub mod Ellipeinc
-pub mod Clear
 pub mod laws

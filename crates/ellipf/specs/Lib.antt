@@ -1,4 +1,3 @@
 -- What the contract cites (Ellipf), and what is proved of it (laws).
 pub mod Ellipf
-pub mod Clear
 pub mod laws

@@ -1,4 +1,2 @@
 -- Which answers there can be, how many rounds, and 01's corners.
 pub mod Values
-pub mod Rounds
-pub mod Corners

@@ -1,3 +1,2 @@
 -- What the definition means, and 01's corner.
 pub mod Meaning
-pub mod Corners

@@ -1,4 +1,3 @@
 -- What the contracts cite (Period, Scaling), and what is proved of it (laws).
 pub mod Period
 pub mod Scaling
-pub mod laws

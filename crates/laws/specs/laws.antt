@@ -6,11 +6,8 @@ pub mod Kinds
 pub mod Rounding
 pub mod Exact
 pub mod Sum
-pub mod Signs
 -- what each operation on f64 is as a fraction that is rounded once, and what bounds it keeps
 pub mod Operations
 pub mod Sizes
 pub mod Units
 pub mod Bounds
-pub mod Cuts
-pub mod Scaled

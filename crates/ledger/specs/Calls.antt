@@ -1,5 +1,5 @@
 -- What each call answers, and what it makes of the sheet's bytes (01, "The leg sheet", from "Calls" on). Definitions only.
-use Prim.Native.Nat.{ℕ, _+_, _-_, _/_}
+use Prim.Native.Nat.{ℕ, zero, suc, _+_, _-_, _*_, _/_}
 use mathlib.Core.Path.{_≡_}
 use mathlib.Core.Bool.{Bool, true, false, _&&_, _||_, not}
 use mathlib.Core.List.{List, [], _∷_}
@@ -140,9 +140,28 @@ readOf s i = when eqb (rowRefusal s i) 0 gives rowIn s i else []
 unfoldable pub soundRow : List ℕ → ℕ → Bool
 soundRow s i = when eqb (rowRefusal s i) 0 gives sound (rowIn s i) else false
 
+-- the first of n places from i on at which a test holds; the place after them where it holds at none
+unfoldable pub firstFrom : (ℕ → Bool) → ℕ → ℕ → ℕ
+firstFrom test i zero = i
+firstFrom test i (suc n) =
+    when test i gives i else
+    firstFrom test (suc i) n
+
+-- the first row of a sheet that the row tests reject; the row count where they reject none; 0 for other bytes
+unfoldable pub firstRejected : List ℕ → ℕ
+firstRejected s = when isSheet s gives firstFrom (λ (i : ℕ). not (soundRow s i)) 0 (rowsIn s) else 0
+
 -- the row's class; none where it can't be read
 unfoldable pub classIn : List ℕ → ℕ → ℕ
 classIn s i = when eqb (rowRefusal s i) 0 gives classOf (rowIn s i) else noClass
+
+-- word k of the row: its first eight bytes, the arguments (1 to 3) and the answers (4 and 5) as bit patterns; 0 where there is none
+unfoldable pub wordOf : List ℕ → ℕ → ℕ → ℕ
+wordOf s i k = number (take 8 (drop (8 * k) (readOf s i)))
+
+-- its first answer where that is finite, else +0; +0 where it can't be read
+unfoldable pub valueIn : List ℕ → ℕ → Float
+valueIn s i = when eqb (rowRefusal s i) 0 gives valueOf (rowIn s i) else +0
 
 -- how often the row was driven: in a sheet without times once, and a blank row never; 0 where it can't be read
 unfoldable pub timesOf : List ℕ → ℕ → ℕ
@@ -155,6 +174,10 @@ timesOf s i =
 -- the total rounded once; +0 where it is refused
 unfoldable pub totalOf : List ℕ → Float
 totalOf s = when eqb (totalRefusal s) 0 gives roundTotal (totalIn s) else +0
+
+-- the total as it is stored, a number modulo 2 ^ 2176 in two's complement; 0 where it is refused
+unfoldable pub exactOf : List ℕ → ℕ
+exactOf s = when eqb (totalRefusal s) 0 gives totalIn s else 0
 
 -- how many rows are of class k, by the sheet's own counts; 0 where it is refused
 unfoldable pub countOf : List ℕ → ℕ → ℕ

@@ -44,7 +44,7 @@ fn starts_with(s: &[u8], words: [u32; 8]) -> bool
 }
 
 // Whether the bytes are a sheet whose rows are of this kind.
-fn is_sheet_of(s: &[u8], kind: u32) -> bool
+pub(crate) fn is_sheet_of(s: &[u8], kind: u32) -> bool
     ensures { λ r. ⌜ r ≡ isSheetOf kind (now (s .entry)) ⌝ }
 {
     let rows = rows_in(s);

@@ -1,11 +1,13 @@
 // The leg sheet's bytes, in memory that the caller lends (01, "The leg sheet"): contents, rows, counts and total. Nothing here knows the integrals.
 // Every call answers for any bytes; a refused one changes none.
+use bytes::get_u64;
 use bytes::pair;
 use bytes::put_u32;
 use bytes::put_words;
 use bytes::put_zeros;
 use checks::contents;
 use checks::is_sheet;
+use checks::is_sheet_of;
 use checks::keeps_times;
 use checks::refusal_of_place;
 use checks::refusal_of_row;
@@ -22,9 +24,10 @@ ghost use mathlib.Core.Path.{_≡_};
 ghost use mathlib.Core.Bool.{false};
 ghost use Prim.Native.Nat.{_+_, _*_, _≤_, _<_};
 ghost use lib.ListN.{length};
+ghost use Rattle.total.specs.Total.{val};
 ghost use Rattle.ledger.specs.Bytes.{fields};
 ghost use Rattle.ledger.specs.Sheet.{mostRows, sizeFor, rowPlace, classOf};
-ghost use Rattle.ledger.specs.Calls.{Sized, rowsIn, blankRefusal, blankOf, damaged, edited, placeRefusal, placeOf, rowRefusal, readOf, soundRow, classIn, timesOf, totalRefusal, totalOf, countOf};
+ghost use Rattle.ledger.specs.Calls.{Sized, rowsIn, blankRefusal, blankOf, damaged, edited, placeRefusal, placeOf, rowRefusal, readOf, isSheetOf, soundRow, firstRejected, classIn, wordOf, valueIn, timesOf, totalRefusal, totalOf, exactOf, countOf};
 
 mod bytes;
 mod checks;
@@ -109,6 +112,13 @@ pub fn place(sheet: &mut [u8], row: u32, words: [u64; 6]) -> u8
     0
 }
 
+// Whether the bytes are a sheet whose first word is this one: 3 where its rows keep times, 1 where they do not.
+pub fn says(sheet: &[u8], kind: u32) -> bool
+    ensures { λ r. ⌜ r ≡ isSheetOf kind (now (sheet .entry)) ⌝ }
+{
+    is_sheet_of(sheet, kind)
+}
+
 // The row's own 48 bytes, or an empty part; `row_refusal` says why.
 pub fn read_row(sheet: &[u8], row: u32) -> &[u8]
     ensures { λ r. ⌜ now r ≡ readOf (now (sheet .entry)) row ⌝ }
@@ -136,6 +146,24 @@ pub fn row_sound(sheet: &[u8], row: u32) -> bool
     is_sound(row_part(sheet, row))
 }
 
+// The first row that refusal 10's row tests reject; the row count where they reject none, and 0 where the bytes are no sheet.
+pub fn first_rejected(sheet: &[u8]) -> u32
+    ensures { λ r. ⌜ r ≡ firstRejected (now (sheet .entry)) ⌝ }
+{
+    if !is_sheet(sheet) {
+        return 0;
+    }
+    let rows = rows_in(sheet) as u32;
+    let mut i: u32 = 0;
+    while i < rows {
+        if !row_sound(sheet, i) {
+            return i;
+        }
+        i += 1;
+    }
+    rows
+}
+
 // The row's class, as `count` numbers them; 5 where a NaN first answer leaves it none, or the row can't be read.
 pub fn row_class(sheet: &[u8], row: u32) -> usize
     ensures { λ r. ⌜ r ≡ classIn (now (sheet .entry)) row ⌝ }
@@ -144,6 +172,29 @@ pub fn row_class(sheet: &[u8], row: u32) -> usize
         return 5;
     }
     share_of(row_part(sheet, row)).class
+}
+
+// Word k of the row: function, refusal number and times (0), the arguments (1 to 3) and the answers (4 and 5) as bit patterns; 0 where there is no such word or the row can't be read.
+pub fn row_word(sheet: &[u8], row: u32, k: usize) -> u64
+    ensures { λ r. ⌜ r ≡ wordOf (now (sheet .entry)) row k ⌝ }
+{
+    if k > 5 {
+        return 0;
+    }
+    if refusal_of_row(sheet, row) != 0 {
+        return 0;
+    }
+    get_u64(row_part(sheet, row), 8 * k)
+}
+
+// What the row brings to the total each time it was driven: its first answer where that is finite, else +0; +0 where it can't be read.
+pub fn row_value(sheet: &[u8], row: u32) -> f64
+    ensures { λ r. ⌜ r ≡ valueIn (now (sheet .entry)) row ⌝ }
+{
+    if refusal_of_row(sheet, row) != 0 {
+        return 0.0;
+    }
+    share_of(row_part(sheet, row)).value
 }
 
 // How often the row was driven: once in a sheet that keeps no times, where a blank row never was; 0 where it can't be read.
@@ -164,6 +215,16 @@ pub fn total(sheet: &[u8]) -> f64
         return 0.0;
     }
     Total::of(read_total(sheet)).rounded()
+}
+
+// The total as it is stored, in limbs; 0 where `total_refusal` is not 0.
+pub fn exact_total(sheet: &[u8]) -> [u64; 34]
+    ensures { λ r. ⌜ val r ≡ exactOf (now (sheet .entry)) ⌝ }
+{
+    if !is_sheet(sheet) {
+        return [0u64; 34];
+    }
+    read_total(sheet)
 }
 
 // 7, or 0: the bytes are a sheet.

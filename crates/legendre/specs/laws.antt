@@ -1,5 +1,4 @@
 -- What is proved of the three functions, for every f64.
-pub mod Corners
 pub mod Values
 pub mod Ends
 -- The lemmas, from the operations up: root and logarithm, the places of m, the runs of the mean, its end.

@@ -1,4 +1,2 @@
 -- The denominators are above 0, x = 2^k f for one k alone, and where there is an answer.
-pub mod Positive
 pub mod Places
-pub mod Answered

@@ -1,4 +1,2 @@
 -- What is proved of the definition.
 pub mod Counts
-pub mod Unmet
-pub mod Corners

@@ -1,4 +1,3 @@
 -- What the contract cites; then what is proved of it.
 pub mod Rd
-pub mod Clear
 pub mod laws

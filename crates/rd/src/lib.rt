@@ -13,8 +13,8 @@ ghost use mathlib.Core.Path.{_≡_};
 ghost use Rattle.rf.specs.Rf.{rfOf};
 ghost use Rattle.rd.specs.Rd.{startOf, stopsOf, nextOf, roundOf, closedOf, finishOf, rdOf};
 
-// `scale` is 4^-k after k rounds, `sum` what the rounds have added.
-pub(crate) struct State {
+// `scale` is 4^-k after k rounds, `sum` what the rounds have added. It is open to laws; no public function takes it.
+pub struct State {
     pub x: f64,
     pub y: f64,
     pub z: f64,

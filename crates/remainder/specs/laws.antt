@@ -1,3 +1,2 @@
 -- Laws about the definitions.
 pub mod Remainder
-pub mod Corners

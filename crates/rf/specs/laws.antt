@@ -1,8 +1,3 @@
 -- What is proved of the definition.
 pub mod Counts
-pub mod Unmet
-pub mod Corners
-pub mod Scaled
-pub mod Point
-pub mod Quarters
 pub mod Moves

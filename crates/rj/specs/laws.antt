@@ -1,5 +1,3 @@
 -- What is proved of the definition.
 pub mod Counts
-pub mod Unmet
-pub mod Corners
 pub mod Moves

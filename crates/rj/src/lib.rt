@@ -16,8 +16,8 @@ ghost use Prim.Native.Nat.{_*_, _≤_};
 ghost use Rattle.rf.specs.Rf.{rfOf};
 ghost use Rattle.rj.specs.Rj.{startOf, stopsOf, nextOf, roundOf, closedOf, finishOf, rjOf};
 
-// As RD's; `inner` says whether every RC so far was met, `inside` counts their rounds.
-pub(crate) struct State {
+// As RD's, and as open; `inner` says whether every RC so far was met, `inside` counts their rounds.
+pub struct State {
     pub x: f64,
     pub y: f64,
     pub z: f64,

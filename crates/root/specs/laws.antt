@@ -1,4 +1,2 @@
 -- What the definition means, and 01's corners.
 pub mod Meaning
-pub mod Corners
-pub mod Scaled

@@ -1,4 +1,3 @@
 -- What the definitions mean, magnitude by its cases, and 01's corners.
 pub mod Meaning
 pub mod Magnitude
-pub mod Corners

@@ -1,0 +1,1 @@
+// No code: corner facts of the definitions that the contracts cite.

@@ -1,2 +1,0 @@
--- How large the reduced angles are.
-pub mod Angles

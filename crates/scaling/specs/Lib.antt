@@ -1,8 +1,11 @@
--- What a power of two does. Where a run loses no digits to the ends of the range (Clear and its like); that a power of four goes through operation, root, recipe and function, bit for bit (laws).
+-- What a power of two does. Where a run loses no digits to the ends of the range (Clear and its like); that a power of four goes through operation, root, recipe and function, bit for bit (laws). RF as it was with another mean (Before), RD, RJ, ellipeinc and ellippi as they were (Kept), and where that made no difference.
 pub mod Clear
 pub mod ClearRuns
 pub mod RfClear
 pub mod RdClear
 pub mod EllipeincClear
 pub mod EllipfClear
+pub mod Moderate
+pub mod Before
+pub mod Kept
 pub mod laws

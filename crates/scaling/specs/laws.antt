@@ -1,4 +1,4 @@
--- The operations, the root, what the recipes share, the recipes, the functions; a point at which the hypotheses hold; RF's mean by quarters.
+-- The operations, the root, what the recipes share, the recipes, the functions; a point at which the hypotheses hold; RF's mean by quarters, and where it makes no difference; answers that are kept, or refused.
 pub mod Operations
 pub mod Root
 pub mod Recipes
@@ -8,3 +8,14 @@ pub mod Ellipeinc
 pub mod Ellipf
 pub mod Point
 pub mod Quarters
+pub mod Multiples
+pub mod Ranges
+pub mod Moderate
+pub mod Sines
+pub mod Unbounded
+pub mod Folded
+pub mod Most
+pub mod Arguments
+pub mod Rest
+pub mod Before
+pub mod Kept

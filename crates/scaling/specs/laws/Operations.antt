@@ -45,7 +45,7 @@ spare : (z p l : ℕ) → z ≤ p + l → z - p ≤ l
 spare z p l h = omega arith
 
 -- q * 2 ^ t units are rounded to themselves, q having no more digits than the format keeps
-grid-exact : (f : Format) (q t : ℕ) → q < 2 ^ prec f → grid f (q * 2 ^ t) (2 ^ low f) ≡ q * 2 ^ t
+pub grid-exact : (f : Format) (q t : ℕ) → q < 2 ^ prec f → grid f (q * 2 ^ t) (2 ^ low f) ≡ q * 2 ^ t
 grid-exact f q t small =
     let l = 2 ^ low f in
     let n = q * 2 ^ t * l in
@@ -62,7 +62,7 @@ abbrev Scales : Format → ℕ → ℕ → Type 0
 Scales f a c = (t : ℕ) → grid f (a * 2 ^ t) c ≡ grid f a c * 2 ^ t
 
 -- of a whole number of units, however small
-whole-scales : (f : Format) (n : ℕ) → Scales f n (2 ^ low f)
+pub whole-scales : (f : Format) (n : ℕ) → Scales f n (2 ^ low f)
 whole-scales f n t = go (leb (prec f) (size (n * l / l))) (leb→le (prec f) (size (n * l / l))) (nleb→lt (prec f) (size (n * l / l)))
   where
     l : ℕ
@@ -120,20 +120,23 @@ record Good (a c : ℕ) : Type 0 where
   scales : Scales binary64 a c
   fine : grid binary64 a c < overflow binary64
 
+pub fine-round : (s : Bool) (a c : ℕ) → T (finite (round binary64 s a c)) → grid binary64 a c < overflow binary64
+fine-round s a c h = under s (kept 53 (a * 2 ^ 1074) c) (drop 53 (a * 2 ^ 1074) c) (subst (λ (z : Float). T (finite z)) (round-is binary64 s a c) h)
+
 good-whole : (s : Bool) (n : ℕ) → T (finite (round binary64 s n (2 ^ 1074))) → Good n (2 ^ 1074)
-good-whole s n h = record {
-  scales = whole-scales binary64 n;
-  fine = under s (kept 53 (n * 2 ^ 1074) (2 ^ 1074)) (drop 53 (n * 2 ^ 1074) (2 ^ 1074)) (subst (λ (z : Float). T (finite z)) (round-is binary64 s n (2 ^ 1074)) h);
-}
+good-whole s n h = record { scales = whole-scales binary64 n; fine = fine-round s n (2 ^ 1074) h }
+
+no-units : (a c : ℕ) → a ≡ 0 → a * 2 ^ 1074 ≡ 0 * c
+no-units a c e = ap (λ (z : ℕ). z * 2 ^ 1074) e ∙ zero-mul (2 ^ 1074) ∙ sym (zero-mul c)
+
+pub grid-zero : (a c : ℕ) → 0 < c → a ≡ 0 → grid binary64 a c ≡ 0
+grid-zero a c C e = grid-same binary64 a c 0 (2 ^ 1074) C (pow-pos 1074) (no-units a c e) ∙ grid-exact binary64 0 0 (pow-pos 53)
 
 good-zero : (a c : ℕ) → 0 < c → a ≡ 0 → Good a c
 good-zero a c C e = record {
-  scales = scales-same binary64 a c 0 (2 ^ 1074) C (pow-pos 1074) same (whole-scales binary64 0);
-  fine = subst (λ (z : ℕ). z < overflow binary64) (sym (grid-same binary64 a c 0 (2 ^ 1074) C (pow-pos 1074) same ∙ grid-exact binary64 0 0 (pow-pos 53))) (pow-pos 2098);
+  scales = scales-same binary64 a c 0 (2 ^ 1074) C (pow-pos 1074) (no-units a c e) (whole-scales binary64 0);
+  fine = subst (λ (z : ℕ). z < overflow binary64) (sym (grid-zero a c C e)) (pow-pos 2098);
 }
-  where
-    same : a * 2 ^ 1074 ≡ 0 * c
-    same = ap (λ (z : ℕ). z * 2 ^ 1074) e ∙ zero-mul (2 ^ 1074) ∙ sym (zero-mul c)
 
 normal-finite : (x : Float) → T (normal x) → T (finite x)
 normal-finite nan h = h
@@ -156,7 +159,7 @@ good-normal s a c C h = record {
 }
   where
     small : grid binary64 a c < overflow binary64
-    small = under s (kept 53 (a * 2 ^ 1074) c) (drop 53 (a * 2 ^ 1074) c) (subst (λ (z : Float). T (finite z)) (round-is binary64 s a c) (normal-finite (round binary64 s a c) h))
+    small = fine-round s a c (normal-finite (round binary64 s a c) h)
 
 times-round : (s : Bool) (a c b d i j : ℕ) → 0 < c → 0 < d → a * 2 ^ i * d ≡ b * 2 ^ j * c → Good a c → Good b d → Times i j (round binary64 s a c) (round binary64 s b d)
 times-round s a c b d i j C D e g h = record {
@@ -169,13 +172,13 @@ times-round s a c b d i j C D e g h = record {
 }
 
 -- ---- zero, and not zero, in units
-zero-units : (x : Float) (s : Bool) (n : ℕ) → HasValue x s n (2 ^ 1074) → T (isZero x) → n ≡ 0
+pub zero-units : (x : Float) (s : Bool) (n : ℕ) → HasValue x s n (2 ^ 1074) → T (isZero x) → n ≡ 0
 zero-units nan s n v h = absurd v
 zero-units (inf t) s n v h = absurd v
 zero-units (fin t m e) s n v h =
     eq-of-mul-eq-mul-right (down e) (down-pos e) n 0 (sym (v .1) ∙ ap (λ (z : ℕ). z * up e * 2 ^ 1074) (eqb→eq m 0 h) ∙ ap (λ (z : ℕ). z * 2 ^ 1074) (zero-mul (up e)) ∙ zero-mul (2 ^ 1074) ∙ sym (zero-mul (down e)))
 
-some-units : (x : Float) (s : Bool) (n : ℕ) → HasValue x s n (2 ^ 1074) → T (not (isZero x)) → 0 < n
+pub some-units : (x : Float) (s : Bool) (n : ℕ) → HasValue x s n (2 ^ 1074) → T (not (isZero x)) → 0 < n
 some-units nan s n v h = absurd v
 some-units (inf t) s n v h = absurd v
 some-units (fin t zero e) s n v h = absurd h
@@ -290,7 +293,7 @@ sum-round s t a b c = go (Bool·beq s t) (ltb a b) (ltb b a)
 ltb-scaled : (a b p : ℕ) → 0 < p → ltb (a * p) (b * p) ≡ ltb a b
 ltb-scaled a b p P = ltb-same (a * p) (b * p) a b (λ l. lt-of-mul-lt-mul-right p l) (λ l. mul-lt-mul-of-pos-right l P)
 
-sub-mul : (a b p : ℕ) → (a - b) * p ≡ a * p - b * p
+pub sub-mul : (a b p : ℕ) → (a - b) * p ≡ a * p - b * p
 sub-mul a b p = mul-comm (a - b) p ∙ mul-sub p a b ∙ (λ i. mul-comm p a i - mul-comm p b i)
 
 sign-scaled : (s t : Bool) (a b p : ℕ) → 0 < p → signOf s (a * p) t (b * p) ≡ signOf s a t b
@@ -358,7 +361,7 @@ below-scaled false true a b p P = refl
 below-scaled true false a b p P = (λ i. ltb (sym (zero-mul p) i) (sym (add-mul a b p) i)) ∙ ltb-scaled 0 (a + b) p P
 below-scaled true true a b p P = ltb-scaled b a p P
 
-lt-units : (x y : Float) (s t : Bool) (a b c : ℕ) → 0 < c → HasValue x s a c → HasValue y t b c → (x <· y) ≡ below s a t b
+pub lt-units : (x y : Float) (s t : Bool) (a b c : ℕ) → 0 < c → HasValue x s a c → HasValue y t b c → (x <· y) ≡ below s a t b
 unfolding lt
 lt-units nan y s t a b c C v w = absurd v
 lt-units (inf u) y s t a b c C v w = absurd v

@@ -5,51 +5,15 @@ use Prim.Native.Nat.{ℕ, _*_, _^_}
 use native.Mathlib.Nat.{eq-of-mul-eq-mul-right, mul-one}
 use lib.Dec.{T}
 use lib.Pow.{pow-pos}
-use lib.Ieee.{Float, nan, inf, fin, up, down, binary64, add, sum, mul, div, round, ofBits, fits}
+use lib.Ieee.{Float, nan, inf, fin, down, binary64, add, sum, mul, div, round, ofBits, fits}
 use lib.Ieee.Exact.{HasValue}
 use lib.Ieee.Fits.{down-pos, mul-fits, div-fits}
-use lib.Ieee.Scale.{finite}
-use Rattle.laws.specs.Arithmetic.{_⊕_, _⊖_, _⊗_, _⊘_, +0, 1·0, 2·0, 3·0, 4·0}
-use Rattle.scaling.specs.Clear.{ClearSum, ClearQuotient}
+use Rattle.laws.specs.Arithmetic.{_⊕_, _⊘_, +0, 1·0, 2·0, 3·0, 4·0}
+use Rattle.scaling.specs.Before.{quartered, meanBefore, startWith, rfBefore, Same, ClearMeans}
 use Rattle.laws.specs.laws.Exact.{round-of-value}
 use Rattle.scaling.specs.laws.Operations.{Times, times-add, times-over, multiplied, undivided}
-use Rattle.whole.specs.Whole.{magnitudeOf}
 use Rattle.carlson.specs.Loop.{duplicated}
-use Rattle.carlson.specs.Series.{largerOf}
-use Rattle.carlson.specs.declared.Outcome.{Outcome}
-use Rattle.rf.specs.declared.State.{State}
 use Rattle.rf.specs.Rf.{startOf, stopsOf, roundOf, closedOf, rfOf}
-
--- ---- the mean before, and RF with it
-
-abbrev pub quartered : Float → Float → Float → Float
-quartered x y z = (x ⊘ 4·0 ⊕ y ⊘ 4·0 ⊕ z ⊘ 4·0) ⊘ 3·0
-
-abbrev pub meanBefore : Float → Float → Float → Float
-meanBefore x y z = 4·0 ⊗ quartered x y z
-
-unfoldable pub startWith : Float → Float → Float → Float → State
-startWith mean x y z = record { x = x; y = y; z = z; mean = mean; distance = largerOf (largerOf (magnitudeOf (mean ⊖ x)) (magnitudeOf (mean ⊖ y))) (magnitudeOf (mean ⊖ z)) }
-
-unfoldable pub rfBefore : Float → Float → Float → Outcome
-rfBefore x y z = duplicated stopsOf roundOf closedOf (startWith (meanBefore x y z) x y z)
-
--- no quarter is subnormal, and nothing is infinite
-pub record ClearMeans (x y z : Float) : Type 0 where
-  pub finite-x : T (finite x)
-  pub finite-y : T (finite y)
-  pub finite-z : T (finite z)
-  pub quarter-x : ClearQuotient x 4·0
-  pub quarter-y : ClearQuotient y 4·0
-  pub quarter-z : ClearQuotient z 4·0
-  pub two : ClearSum x y
-  pub three : ClearSum (x ⊕ y) z
-  pub two-quarters : ClearSum (x ⊘ 4·0) (y ⊘ 4·0)
-  pub three-quarters : ClearSum (x ⊘ 4·0 ⊕ y ⊘ 4·0) (z ⊘ 4·0)
-  pub mean : ClearQuotient (x ⊕ y ⊕ z) 3·0
-  pub mean-quarters : ClearQuotient (x ⊘ 4·0 ⊕ y ⊘ 4·0 ⊕ z ⊘ 4·0) 3·0
-  pub finite-quartered : T (finite (quartered x y z))
-  pub finite-before : T (finite (meanBefore x y z))
 
 -- ---- one float has one value
 
@@ -67,6 +31,11 @@ times-unique {i} {x} {y} {z} fy fz t u =
     ∙ (λ j. round binary64 (q .0 j) (a j) (2 ^ 1074))
     ∙ round-of-value binary64 z (u .sign) (u .after) (2 ^ 1074) (pow-pos 1074) fz (u .second)
 
+-- ---- RF sees the mean alone
+pub same-mean : (x y z : Float) → meanBefore x y z ≡ (x ⊕ y ⊕ z) ⊘ 3·0 → Same x y z
+unfolding rfBefore rfOf startWith startOf
+same-mean x y z e = ap (λ (m : Float). duplicated stopsOf roundOf closedOf (startWith m x y z)) e
+
 -- ---- the two means
 
 module _ (x y z : Float) (fx : T (fits binary64 x)) (fy : T (fits binary64 y)) (fz : T (fits binary64 z)) (c : ClearMeans x y z) where
@@ -81,9 +50,8 @@ module _ (x y z : Float) (fx : T (fits binary64 x)) (fy : T (fits binary64 y)) (
       times-unique (mul-fits binary64 4·0 (quartered x y z)) (div-fits binary64 (x ⊕ y ⊕ z) 3·0)
       (multiplied 2 4·0 (quartered x y z) (refl, refl) (c .finite-quartered) (div-fits binary64 (x ⊘ 4·0 ⊕ y ⊘ 4·0 ⊕ z ⊘ 4·0) 3·0) (c .finite-before)) mean
 
-  pub rf-as-before : rfBefore x y z ≡ rfOf x y z
-  unfolding rfBefore rfOf startWith startOf
-  rf-as-before = ap (λ (m : Float). duplicated stopsOf roundOf closedOf (startWith m x y z)) mean-same
+  pub rf-as-before : Same x y z
+  rf-as-before = same-mean x y z mean-same
 
 -- there are such arguments, a zero among them
 pub clear-point : ClearMeans 1·0 +0 2·0

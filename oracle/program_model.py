@@ -5,9 +5,11 @@ It shares nothing with the Rattle code: lines are matched by regular expressions
 and only such arguments are evaluated as documents 01 and 02 name the answer of, so no elliptic integral is needed.
 
   oracle/program_model.py                writes crates/cases/{args,data/,stdout}, crates/legsheet/{stdin,stdout} and examples/worked.txt
-  oracle/program_model.py --check        says whether they are as it would write them
+  oracle/program_model.py --runs         writes faces/program/runs: runs of the programs that read and write sheet files (program_cases.py; their models are files_model.py)
+  oracle/program_model.py --check        says whether both are as it would write them
   oracle/program_model.py --run          the model as a program: standard input to standard output
   oracle/program_model.py --compare N    N inputs, most of them damaged somewhere, through target/bin/legsheet (`rt check legsheet`) and through the model
+  oracle/program_model.py --compare-files N [SEED [FOLDER [PROGRAM..]]]   N random runs of the programs, those in FOLDER (target/bin), most of them over damaged sheets
 """
 import math, os, random, re, shutil, struct, subprocess, sys
 
@@ -313,12 +315,26 @@ def main():
         return
     if sys.argv[1:2] == ['--compare']:
         sys.exit(bool(compare(int(sys.argv[2]))))
+    if sys.argv[1:2] == ['--compare-files']:
+        import program_runs
+        folder = sys.argv[4] if len(sys.argv) > 4 else os.path.join(ROOT, 'target/bin')
+        there = sys.argv[5:] or [p for p in program_runs.files_model.PROGRAMS if os.path.exists(os.path.join(folder, p))]
+        off, tried, good = program_runs.compare(int(sys.argv[2]), int(sys.argv[3]) if len(sys.argv) > 3 else 1, folder, there)
+        print('%d runs of %s, %d of them good: %d differ' % (tried, ', '.join(there), good, off))
+        sys.exit(bool(off))
+    if sys.argv[1:] == ['--runs']:
+        import program_runs
+        print('%d runs, %d bytes' % program_runs.write_stored())
+        return
     files = wanted()
     if sys.argv[1:] == ['--check']:
         here = 'crates/cases/data'
         stored = {here + '/' + n for n in os.listdir(os.path.join(ROOT, here))}
         off = sorted(stored - set(files)) + [p for p, text in files.items() if not os.path.exists(os.path.join(ROOT, p)) or open(os.path.join(ROOT, p), 'rb').read() != text]
-        print('\n'.join(off) or '%d files are as the model makes them' % len(files))
+        import program_runs
+        runs, stored_runs = program_runs.check_stored()
+        off += ['faces/program/runs/' + name for name in runs]
+        print('\n'.join(off) or '%d files and %d runs are as the model makes them' % (len(files), stored_runs))
         sys.exit(bool(off))
     shutil.rmtree(os.path.join(ROOT, 'crates/cases/data'), ignore_errors=True)
     for path, text in files.items():

@@ -1,6 +1,14 @@
 #!/usr/bin/env python3
-"""faces/program/test.py: whole runs of the program for what no contract can say of it: that each byte of the file reaches it once and in order, however
-the reads cut it, and that a failed read is seen. Each run's output is compared with the model of oracle/program_model.py."""
+"""faces/program/test.py: whole runs of the programs, for what no contract can say of them.
+
+  test.py [--bin DIR] [--only NAME]       the programs of DIR (target/bin), or one of them
+          [--kills N] [--compare N]       how many runs are killed at a random moment (20), and how many random runs are compared with the models (150)
+          [--disk]                        also a disk that is full (root, who mounts one)
+          [--no-errors]                   standard error is not looked at
+
+That each byte of the input reaches legsheet once and in order, however the reads cut it, and that a failed read is seen; the stored runs of faces/program/runs; random runs beside the
+models of oracle/files_model.py; and that a name holds the old bytes or the whole new ones, whatever fails (safe.py). A program that is missing is an error where crates.txt lists it."""
+import argparse
 import array
 import fcntl
 import os
@@ -12,11 +20,16 @@ import termios
 import time
 
 sys.dont_write_bytecode = True
-sys.path.insert(0, os.path.join(os.path.dirname(os.path.abspath(__file__)), '../../oracle'))
+HERE = os.path.dirname(os.path.abspath(__file__))
+sys.path[:0] = [HERE, os.path.join(HERE, '../../oracle')]
+import files_model
 import program_model as model
+import program_runs
+import safe
 
 FAILED = b'legsheet: the input could not be read to its end'
 LONGEST = 20  # seconds that one run may take
+MOST_TOLD = 40  # runs that differ and are told
 
 
 def legs(seed, rows, lines):
@@ -104,13 +117,96 @@ def runs():
         yield 'cut in random places, %d' % seed, fed(cut(rng, text, rng.choice([3, 30, 300]))), model.run(text), False
 
 
-PROGRAM = model.program()
-passed = failed = 0
-for name, (printed, errors), wanted, fails in runs():
-    if printed == wanted and errors.startswith(FAILED) == fails and (fails or not errors):
-        passed += 1
-    else:
-        failed += 1
-        print('program: %s: printed %r.. and %r, and not %r..' % (name, printed[:80], errors[:80], wanted[:80]))
-print('program: %s: %d runs' % ('FAILED' if failed else 'passed', passed + failed))
-sys.exit(bool(failed))
+def reads(told):
+    """The runs above, of legsheet without a word."""
+    for name, (printed, errors), wanted, fails in runs():
+        wrong = []
+        if printed != wanted:
+            wrong.append('printed %s, and should have printed %s' % (program_runs.shown(printed), program_runs.shown(wanted)))
+        if errors.startswith(FAILED) != fails or (errors and not fails):
+            wrong.append('standard error is %s' % program_runs.shown(errors))
+        told(name, wrong)
+
+
+def listed():
+    """The crates of crates.txt."""
+    with open(os.path.join(model.ROOT, 'crates.txt')) as file:
+        return {line.split(':')[0] for line in file if ':' in line}
+
+
+def takes_files(folder):
+    """Whether this legsheet takes a FILE. It must from the change on that brings legfix."""
+    said = subprocess.run(program_runs.command('legsheet', folder) + ['a', 'b'], stdin=subprocess.DEVNULL, capture_output=True)
+    return said.stdout.startswith(b'usage') or 'legfix' in listed()
+
+
+class Verdict:
+    def __init__(self):
+        self.passed = self.failed = 0
+
+    def told(self, name, wrong):
+        if wrong:
+            self.failed += 1
+            if self.failed <= MOST_TOLD:
+                print('program: %s: %s' % (name, '; '.join(wrong)))
+        else:
+            self.passed += 1
+
+
+def stored(told, folder, there):
+    """The stored runs of the programs that are there."""
+    for run in program_runs.stored():
+        if run.program in there and (there[run.program] or not run.words):
+            wrong = program_runs.faults(run, folder)
+            if wrong is None:
+                print('program: %s was not tried: nobody may not run the program' % run.name)
+            else:
+                told('runs/%s (%s)' % (run.name, run.note), wrong)
+
+
+def main():
+    options = argparse.ArgumentParser()
+    options.add_argument('--bin', default=os.path.join(model.ROOT, 'target/bin'))
+    options.add_argument('--only')
+    options.add_argument('--kills', type=int, default=20)
+    options.add_argument('--compare', type=int, default=150)
+    options.add_argument('--disk', action='store_true')
+    options.add_argument('--no-errors', action='store_true')
+    given = options.parse_args()
+    program_runs.LOOKED_AT['errors'] = not given.no_errors
+    verdict, there = Verdict(), {}
+    for program in files_model.PROGRAMS:
+        if given.only in (None, program):
+            if os.path.exists(os.path.join(given.bin, program)):
+                there[program] = program != 'legsheet' or takes_files(given.bin)
+            elif program in listed():
+                verdict.told(program, ['it is not there: rt check %s' % program])
+    left_out = [p for p in files_model.PROGRAMS if p not in there and p not in listed()] if given.only is None else []
+    if there.get('legsheet') is False:
+        left_out.append('legsheet FILE')
+    if 'legsheet' in there:
+        global PROGRAM
+        PROGRAM = program_runs.command('legsheet', given.bin)
+        reads(verdict.told)
+    off, _ = program_runs.check_stored()
+    verdict.told('oracle/program_model.py --check', off)
+    stored(verdict.told, given.bin, there)
+    whole = [program for program in there if there[program]]
+    off, tried, _ = program_runs.compare(given.compare if whole else 0, 1, given.bin, whole)
+    verdict.passed, verdict.failed = verdict.passed + tried - off, verdict.failed + off
+    tests = safe.Tests(given.bin, whole, verdict.told)
+    try:
+        tests.all(given.kills, given.disk)
+    finally:
+        tests.away()
+    verdict.passed += tests.tried - tests.wrong
+    if left_out:
+        print('program: not tried, since crates.txt has no such program yet: %s' % ', '.join(left_out))
+    if verdict.failed > MOST_TOLD:
+        print('program: %d more runs differ' % (verdict.failed - MOST_TOLD))
+    print('program: %s: %d runs, %d of them killed at a random moment, %d new files left by all that were killed' % ('FAILED' if verdict.failed else 'passed', verdict.passed + verdict.failed, tests.killed, tests.strays))
+    sys.exit(bool(verdict.failed))
+
+
+if __name__ == '__main__':
+    main()

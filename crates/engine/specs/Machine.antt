@@ -1,8 +1,9 @@
 -- The run byte by byte, in lent memory, from any state: what the code does. Definitions only.
-use Prim.Native.Nat.{ℕ, _+_, _%_, _^_}
+use Prim.Native.Nat.{ℕ, _+_, _%_, _^_, _≤_}
+use mathlib.Core.Path.{_≡_}
 use mathlib.Core.Bool.{Bool, true, false, not, _&&_}
 use mathlib.Core.List.{List, [], _∷_, _++_}
-use lib.ListN.{take, drop, set}
+use lib.ListN.{length, take, drop, set}
 use lib.Dec.{ltb, eqb}
 use Rattle.laws.specs.Ladder.{when_gives_else_}
 use Rattle.line.specs.declared.Number.{Number}
@@ -13,9 +14,9 @@ use Rattle.line.specs.Line.{decimalOf, lineOf}
 use Rattle.ledger.specs.Sheet.{sizeFor, mostRows}
 use Rattle.ledger.specs.Calls.{blankRefusal, blankOf}
 use Rattle.sheet.specs.Edit.{editRefusal, editOf}
-use Rattle.page.specs.Page.{pageOf, badLine}
+use Rattle.page.specs.Page.{largest}
 use Rattle.engine.specs.declared.State.{State}
-use Rattle.engine.specs.Run.{entry}
+use Rattle.engine.specs.Run.{Outcome, Start, Sheet, Bad, zeros, entry}
 
 -- ---- what a run holds
 
@@ -40,9 +41,9 @@ pub record Room : Type 0 where
 abbrev pub room : State → List ℕ → List ℕ → Room
 room st line sheet = record { st = st; line = line; sheet = sheet }
 
--- between two lines: k lines were taken, the sheet has n bytes, and the last line was bad or not
+-- between two lines: k lines were taken, there is a sheet of n bytes, and the last line was bad or not
 abbrev pub between : ℕ → ℕ → Bool → State
-between k n bad = record { lines = k; held = 0; size = n; bad = bad }
+between k n bad = record { lines = k; held = 0; size = n; begun = true; bad = bad }
 
 -- ---- a line
 
@@ -69,8 +70,8 @@ lineNumber st = (st .lines + 1) % 2 ^ 64
 
 unfoldable pub takeLine : State → List ℕ → List ℕ → Held
 takeLine st s m =
-    when eqb (st .lines) 0 gives countLine (lineNumber st) m (decimalOf s) else
-    editLine (lineNumber st) (st .size) m (lineOf s)
+    when st .begun gives editLine (lineNumber st) (st .size) m (lineOf s) else
+    countLine (lineNumber st) m (decimalOf s)
 
 -- ---- a byte
 
@@ -83,7 +84,7 @@ endOf w =
 
 -- one more byte of the line is held
 abbrev pub longerOf : State → State
-longerOf st = record { lines = st .lines; held = st .held + 1; size = st .size; bad = false }
+longerOf st = record { lines = st .lines; held = st .held + 1; size = st .size; begun = st .begun; bad = false }
 
 -- another byte joins the line held; of a long line only its first 83 bytes are kept
 unfoldable pub joinOf : Room → ℕ → Room
@@ -100,8 +101,13 @@ stepOf w b =
 
 -- ---- the calls
 
+-- no sheet yet: line 1 is the row count
 abbrev pub startOf : State
-startOf = between 0 0 false
+startOf = record { lines = 0; held = 0; size = 0; begun = false; bad = false }
+
+-- a sheet of n bytes is there: line 1 is an edit
+abbrev pub fixingOf : ℕ → State
+fixingOf n = between 0 n false
 
 -- a part of the input
 unfoldable pub feedOf : Room → List ℕ → Room
@@ -113,18 +119,33 @@ unfoldable pub feedAll : Room → List (List ℕ) → Room
 feedAll w [] = w
 feedAll w (p ∷ ps) = feedAll (feedOf w p) ps
 
--- the end of the input ends its last line, unless a line end did; no line at all is an empty line 1
+-- the end of the input ends its last line, unless a line end did; where there is no sheet yet, no line at all is an empty line 1
 unfoldable pub finishOf : Room → Room
 finishOf w =
-    when eqb (w .st .held) 0 && not (eqb (w .st .lines) 0) gives w else
+    when eqb (w .st .held) 0 && w .st .begun gives w else
     stepOf w 10
 
--- what is printed in the end
-unfoldable pub printOf : State → List ℕ → List ℕ
-printOf st m =
-    when st .bad gives badLine (st .lines) else
-    pageOf (take (st .size) m)
+-- what the lines that were taken have come to
+unfoldable pub endedOf : State → List ℕ → Outcome
+endedOf st m =
+    when st .bad gives Bad (st .lines) else
+    Sheet (take (st .size) m)
 
 -- the same, of what a run holds when its input ends
-unfoldable pub outputOf : Room → List ℕ
-outputOf w = printOf (finishOf w .st) (finishOf w .sheet)
+unfoldable pub outcomeOf : Room → Outcome
+outcomeOf w = endedOf (finishOf w .st) (finishOf w .sheet)
+
+-- ---- where a run begins
+
+-- the sheet s stands at the front of the memory
+pub record Stored (s : List ℕ) (st : State) (m : List ℕ) : Type 0 where
+  pub size : st .size ≡ length s
+  pub whole : length m ≡ largest
+  pub fits : length s ≤ largest
+  pub bytes : take (length s) m ≡ s
+
+-- a run from o begins in w: with no sheet the memory is zeros, else the sheet stands in it; what the line's buffer holds does not matter
+abbrev pub Begins : Outcome → Room → Type 0
+Begins Start w = (length (w .line) ≡ longest) × (w .st ≡ startOf) × (w .sheet ≡ zeros largest)
+Begins (Sheet s) w = (length (w .line) ≡ longest) × (w .st ≡ fixingOf (length s)) × Stored s (w .st) (w .sheet)
+Begins (Bad k) w = ⊥

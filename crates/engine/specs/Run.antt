@@ -1,5 +1,6 @@
 -- The run as a whole: from the input's bytes to the output's (01, "The program reads standard input"). Definitions only.
 use Prim.Native.Nat.{ℕ, suc}
+use mathlib.Core.Bool.{Bool}
 use mathlib.Core.List.{List, [], _∷_, _++_}
 use lib.ListN.{replicate}
 use lib.Dec.{ltb, eqb}
@@ -14,6 +15,7 @@ use Rattle.ledger.specs.Calls.{blankRefusal, blankOf}
 use Rattle.sheet.specs.Edit.{editRefusal, editOf}
 use Rattle.sheet.specs.declared.Entry.{Entry}
 use Rattle.page.specs.Page.{pageOf, badLine}
+use Rattle.rounds.specs.Rounds.{roundsPage}
 
 -- an input that is read in parts
 unfoldable pub joined : List (List ℕ) → List ℕ
@@ -63,12 +65,28 @@ unfoldable pub linesOn : ℕ → Outcome → List (List ℕ) → Outcome
 linesOn k o [] = o
 linesOn k o (l ∷ ls) = linesOn (suc k) (lineOn k o l) ls
 
--- the output: the page, or the first bad line alone; no line at all is a bad line 1
-unfoldable pub printed : Outcome → List ℕ
-printed Start = badLine 1
-printed (Sheet s) = pageOf s
-printed (Bad k) = badLine k
+-- no line at all is a bad line 1
+unfoldable pub closed : Outcome → Outcome
+closed Start = Bad 1
+closed (Sheet s) = Sheet s
+closed (Bad k) = Bad k
+
+-- what an input comes to: from Start its line 1 is the row count; from a sheet it is an edit, and no line at all leaves the sheet
+unfoldable pub ranOf : Outcome → List ℕ → Outcome
+ranOf o input = closed (linesOn 1 o (linesOf input))
+
+-- the output: the page, or the first bad line alone
+unfoldable pub printed : (List ℕ → List ℕ) → Outcome → List ℕ
+printed page Start = badLine 1
+printed page (Sheet s) = page s
+printed page (Bad k) = badLine k
+
+-- which page: the rounds (legrounds), or the rows with their counts and total
+unfoldable pub pageBy : Bool → List ℕ → List ℕ
+pageBy rounds s =
+    when rounds gives roundsPage s else
+    pageOf s
 
 -- the run
 unfoldable pub runOf : List ℕ → List ℕ
-runOf input = printed (linesOn 1 Start (linesOf input))
+runOf input = printed pageOf (ranOf Start input)

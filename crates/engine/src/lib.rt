@@ -9,23 +9,39 @@ use page::LARGEST;
 use page::ROOM;
 ghost use mathlib.Core.Path.{_≡_};
 ghost use Prim.Native.Nat.{_≤_};
-ghost use lib.ListN.{length};
+ghost use lib.ListN.{length, take};
 ghost use Rattle.page.specs.Page.{largest};
-ghost use Rattle.engine.specs.Machine.{longest, room, startOf, longerOf, endOf, stepOf, feedOf, finishOf, printOf};
-ghost use Rattle.page.specs.Writing.{Put};
+ghost use Rattle.engine.specs.Run.{pageBy, printed};
+ghost use Rattle.engine.specs.Machine.{longest, room, startOf, fixingOf, longerOf, endOf, stepOf, feedOf, finishOf, endedOf};
+ghost use Rattle.text.specs.Writing.{Put};
 
-// How many lines were taken, how many bytes of the next are held (84: too many), the sheet's bytes, and whether the last line was bad.
+// How many lines were taken, how many bytes of the next are held (84: too many), the sheet's bytes, whether there is a sheet, and whether the last line was bad.
 pub struct State {
     pub lines: u64,
     pub held: usize,
     pub size: usize,
+    pub begun: bool,
     pub bad: bool,
 }
 
+// No sheet yet: line 1 is the row count.
 pub fn start() -> State
     ensures { λ r. ⌜ r ≡ startOf ⌝ }
 {
-    between(0, 0, false)
+    State {
+        lines: 0,
+        held: 0,
+        size: 0,
+        begun: false,
+        bad: false,
+    }
+}
+
+// A sheet of so many bytes is there: line 1 is an edit.
+pub fn fixing(size: usize) -> State
+    ensures { λ r. ⌜ r ≡ fixingOf size ⌝ }
+{
+    between(0, size, false)
 }
 
 // One more byte of a line is held; the 84th stands for all that follow.
@@ -37,6 +53,7 @@ fn longer(st: State) -> State
         lines: st.lines,
         held: st.held + 1,
         size: st.size,
+        begun: st.begun,
         bad: false,
     }
 }
@@ -93,7 +110,7 @@ fn last(st: State, line: &[u8], sheet: &mut [u8]) -> State
     requires { ⌜ (length (now line) ≡ longest) × (length (now sheet) ≡ largest) ⌝ }
     ensures { λ r. ⌜ room r (now (line .entry)) (now (sheet .exit)) ≡ finishOf (room st (now (line .entry)) (now (sheet .entry))) ⌝ }
 {
-    if (st.held == 0) & (st.lines != 0) {
+    if (st.held == 0) & st.begun {
         return st;
     }
     if st.bad {
@@ -116,15 +133,25 @@ pub fn finish(st: State, line: &mut [u8; LONGEST], sheet: &mut [u8; LARGEST]) ->
     last(st, line, sheet)
 }
 
+// The sheet's bytes.
+pub fn bytes(st: State, sheet: &[u8; LARGEST]) -> &[u8]
+    ensures { λ r. ⌜ now r ≡ take (st .size) (now (sheet .entry)) ⌝ }
+{
+    let all: &[u8] = sheet;
+    let n = least(st.size, all.len());
+    &all[0..n]
+}
+
 // What is printed in the end, at the start of the buffer: its length.
-pub fn print(st: State, sheet: &[u8; LARGEST], out: &mut [u8; ROOM]) -> usize
-    ensures { λ r. ⌜ Put (now (out .entry)) (now (out .exit)) 0 r (printOf st (now (sheet .entry))) ⌝ }
+pub fn print(st: State, rounds: bool, sheet: &[u8; LARGEST], out: &mut [u8; ROOM]) -> usize
+    ensures { λ r. ⌜ Put (now (out .entry)) (now (out .exit)) 0 r (printed (pageBy rounds) (endedOf st (now (sheet .entry)))) ⌝ }
     ensures { λ r. ⌜ r ≤ length (now (out .exit)) ⌝ }
 {
     if st.bad {
         return page::put_bad(out, st.lines);
     }
-    let all: &[u8] = sheet;
-    let n = least(st.size, all.len());
-    page::put_page(out, &all[0..n])
+    if rounds {
+        return rounds::put_rounds(out, bytes(st, sheet));
+    }
+    page::put_page(out, bytes(st, sheet))
 }

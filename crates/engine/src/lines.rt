@@ -22,7 +22,7 @@ pub(crate) fn least(size: usize, room: usize) -> usize
     room
 }
 
-// The state after line number lines, with nothing of the next one held.
+// The state where there is a sheet, after line number lines, with nothing of the next one held.
 pub(crate) fn between(lines: u64, size: usize, bad: bool) -> State
     ensures { λ r. ⌜ r ≡ Machine·between lines size bad ⌝ }
 {
@@ -30,6 +30,7 @@ pub(crate) fn between(lines: u64, size: usize, bad: bool) -> State
         lines,
         held: 0,
         size,
+        begun: true,
         bad,
     }
 }
@@ -85,8 +86,8 @@ pub(crate) fn take_line(st: State, s: &[u8], sheet: &mut [u8]) -> State
     ensures { λ r. ⌜ held r (now (sheet .exit)) ≡ takeLine st (now (s .entry)) (now (sheet .entry)) ⌝ }
 {
     let k = std::num::wrapping_add_u64(st.lines, 1);
-    if st.lines == 0 {
-        return count_line(k, s, sheet);
+    if st.begun {
+        return edit_line(k, st.size, s, sheet);
     }
-    edit_line(k, st.size, s, sheet)
+    count_line(k, s, sheet)
 }

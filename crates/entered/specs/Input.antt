@@ -3,7 +3,7 @@ use Prim.Native.Nat.{ℕ, suc, _^_, _<_}
 use mathlib.Core.List.{List, [], _∷_, _++_}
 use Rattle.laws.specs.Ladder.{when_gives_else_}
 use Rattle.demands.specs.Edits.{Edit, accepted}
-use Rattle.page.specs.Text.{decimal, pattern, space}
+use Rattle.text.specs.Text.{decimal, pattern, space}
 
 -- an edit as it is written: six numbers, one space apart
 unfoldable pub editText : ℕ → ℕ → ℕ → ℕ → ℕ → ℕ → List ℕ

@@ -1,11 +1,11 @@
 -- Bytes as a number, from the last to the first. Assumes nothing.
-use mathlib.Core.Path.{_≡_, refl}
+use mathlib.Core.Path.{_≡_, refl, sym, ap, _∙_}
 use Prim.Native.Nat.{ℕ, zero, suc, _+_, _*_, _-_, _^_, _≤_, _<_}
 use native.Mathlib.Nat.{pow-suc, pow-le-pow-right, le-trans}
 use native.Mathlib.Omega.{arith}
 use mathlib.Core.List.{List}
-use lib.ListN.{length, drop, getD}
-use lib.Seq.{drop-cons, drop-length}
+use lib.ListN.{length, take, drop, getD, length-drop, drop-of-length-le}
+use lib.Seq.{drop-cons, drop-length, take-all}
 use lib.Dec.{lit≤}
 use Rattle.ledger.specs.Bytes.{number}
 
@@ -31,3 +31,17 @@ fits m k h below =
     let e : 256 ^ suc k ≤ 256 ^ 8 = pow-le-pow-right (lit≤ tt) h in
     let f : 256 ^ 8 ≤ 2 ^ 64 = lit≤ tt in
     le-trans below (le-trans e f)
+
+-- ---- eight bytes from a place on
+module _ (s : List ℕ) (at : ℕ) where
+  pub none-there : length s ≤ at → 0 ≡ number (take 8 (drop at s))
+  unfolding number
+  none-there h = rw (drop-of-length-le s h) refl
+
+  pub fewer-there : at ≤ length s → length s - at < 8 → number (take (length s - at) (drop at s)) ≡ number (take 8 (drop at s))
+  fewer-there h k =
+      let e : length (drop at s) ≡ length s - at = length-drop at s in
+      ap number (take-all (length s - at) (drop at s) (omega arith) ∙ sym (take-all 8 (drop at s) (omega arith)))
+
+  pub eight-there : number (take (at + 8 - at) (drop at s)) ≡ number (take 8 (drop at s))
+  eight-there = let e : at + 8 - at ≡ 8 = omega arith in rw e

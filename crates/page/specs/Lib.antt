@@ -1,5 +1,2 @@
--- What the contracts cite, then the laws of it.
-pub mod Text
+-- What the contracts cite.
 pub mod Page
-pub mod Writing
-pub mod laws

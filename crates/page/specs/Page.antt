@@ -9,11 +9,11 @@ use Rattle.laws.specs.Ladder.{when_gives_else_}
 use Rattle.ledger.specs.Bytes.{number}
 use Rattle.ledger.specs.Sheet.{sizeFor, mostRows}
 use Rattle.ledger.specs.Calls.{rowsIn, readOf, timesOf, totalOf, countOf}
-use Rattle.page.specs.Text.{decimal, pattern, space, end}
+use Rattle.text.specs.Text.{decimal, pattern, space, end}
 
 -- ---- a row: its number, its function and its refusal number, its two answers, and how often it was driven (02, [8])
 
--- the answer that stands at a place of the row, as its bit pattern
+-- the answer, or the argument, that stands at a place of the row, as its bit pattern
 unfoldable pub answerAt : List ℕ → ℕ → ℕ
 answerAt w at = number (take 8 (drop at w))
 
@@ -58,6 +58,12 @@ totalLine s = ascii "total " ++ pattern (toBits binary64 (totalOf s)) ++ end
 -- the bytes of the largest sheet
 abbrev pub largest : ℕ
 largest = sizeFor mostRows
+
+-- how many rows are shown: none of more bytes than the largest sheet has
+unfoldable pub shownOf : List ℕ → ℕ
+shownOf s =
+    when ltb largest (length s) gives 0 else
+    rowsIn s
 
 -- all rows, the counts, the total; nothing for more bytes than the largest sheet has
 unfoldable pub pageOf : List ℕ → List ℕ

@@ -1,13 +1,14 @@
 // One row's line.
-use crate::text::put_decimal;
-use crate::text::put_pattern;
+use text::put_decimal;
+use text::put_pattern;
+use text::put_three;
 ghost use mathlib.Core.Path.{_≡_};
 ghost use Prim.Native.Nat.{_+_, _≤_, _<_};
 ghost use lib.ListN.{length};
 ghost use Rattle.ledger.specs.Bytes.{number};
 ghost use Rattle.ledger.specs.Sheet.{mostRows};
-ghost use Rattle.page.specs.Page.{headText, answersText, rowText, rowLine};
-ghost use Rattle.page.specs.Writing.{Put};
+ghost use Rattle.page.specs.Page.{answerAt, headText, answersText, rowText, rowLine};
+ghost use Rattle.text.specs.Writing.{Put};
 
 fn wide(b: u8) -> u64
     ensures { λ r. ⌜ r ≡ b ⌝ }
@@ -29,43 +30,54 @@ fn word(s: &[u8]) -> u64
     n
 }
 
+// The bit pattern in eight bytes from a place on; bytes that are not there count as zero.
+pub fn pattern_at(s: &[u8], at: usize) -> u64
+    ensures { λ r. ⌜ r ≡ answerAt (now (s .entry)) at ⌝ }
+{
+    if s.len() <= at {
+        return 0;
+    }
+    if s.len() - at < 8 {
+        return word(&s[at..s.len()]);
+    }
+    word(&s[at..at + 8])
+}
+
 // Row, function and refusal number, each with a space after it.
 fn put_head(out: &mut [u8], at: usize, i: u32, function: u8, refusal: u8) -> usize
-    requires { ⌜ (at + 13 ≤ length (now out)) × (i < mostRows) ⌝ }
+    requires { ⌜ (at + 63 ≤ length (now out)) × (i < mostRows) ⌝ }
     ensures { λ r. ⌜ Put (now (out .entry)) (now (out .exit)) at r (headText i function refusal) ⌝ }
     ensures { λ r. ⌜ r ≤ at + 13 ⌝ }
 {
-    let a = put_decimal(out, at, 4, i as u64, 32);
-    let b = put_decimal(out, a, 3, function as u64, 32);
-    put_decimal(out, b, 3, refusal as u64, 32)
+    put_three(out, at, i as u64, function as u64, refusal as u64, 32)
 }
 
 // Two answers, the times, and the line's end.
 fn put_answers(out: &mut [u8], at: usize, first: u64, second: u64, times: u16) -> usize
-    requires { ⌜ at + 40 ≤ length (now out) ⌝ }
+    requires { ⌜ at + 55 ≤ length (now out) ⌝ }
     ensures { λ r. ⌜ Put (now (out .entry)) (now (out .exit)) at r (answersText first second times) ⌝ }
     ensures { λ r. ⌜ r ≤ at + 40 ⌝ }
 {
     let a = put_pattern(out, at, first, 32);
     let b = put_pattern(out, a, second, 32);
-    put_decimal(out, b, 5, times as u64, 10)
+    put_decimal(out, b, times as u64, 10)
 }
 
 // The line of a row that was read.
 fn put_text(out: &mut [u8], at: usize, i: u32, row: &[u8], times: u16) -> usize
-    requires { ⌜ (at + 54 ≤ length (now out)) × (i < mostRows) × (length (now row) ≡ 48) ⌝ }
+    requires { ⌜ (at + 68 ≤ length (now out)) × (i < mostRows) × (length (now row) ≡ 48) ⌝ }
     ensures { λ r. ⌜ Put (now (out .entry)) (now (out .exit)) at r (rowText i (now (row .entry)) times) ⌝ }
     ensures { λ r. ⌜ r ≤ at + 54 ⌝ }
 {
-    let first = word(&row[32..40]);
-    let second = word(&row[40..48]);
+    let first = pattern_at(row, 32);
+    let second = pattern_at(row, 40);
     let a = put_head(out, at, i, row[0], row[1]);
     put_answers(out, a, first, second, times)
 }
 
 // The line of row i.
 pub(crate) fn put_row(out: &mut [u8], at: usize, sheet: &[u8], i: u32) -> usize
-    requires { ⌜ (at + 54 ≤ length (now out)) × (i < mostRows) ⌝ }
+    requires { ⌜ (at + 68 ≤ length (now out)) × (i < mostRows) ⌝ }
     ensures { λ r. ⌜ Put (now (out .entry)) (now (out .exit)) at r (rowLine (now (sheet .entry)) i) ⌝ }
     ensures { λ r. ⌜ r ≤ at + 54 ⌝ }
 {

@@ -1,17 +1,12 @@
 -- What the program writes, from the bytes that its reads brought. Definitions only.
 use Prim.Native.Nat.{ℕ, suc}
-use mathlib.Core.Bool.{Bool}
-use mathlib.Core.List.{List, [], _∷_, _++_}
-use lib.Dec.{eqb}
+use mathlib.Core.Bool.{Bool, true, false, not, _&&_}
+use mathlib.Core.List.{List, [], _∷_}
+use lib.Dec.{ltb, eqb}
+use lib.ListN.{length}
 use Rattle.laws.specs.Ladder.{when_gives_else_}
 use Rattle.page.specs.Page.{failedLine}
-use Rattle.engine.specs.Run.{runOf}
-use Rattle.runner.specs.Reads.{Read, broughtOf}
-
--- all that the reads brought, in their order
-unfoldable pub inputOf : List Read → List ℕ
-inputOf [] = []
-inputOf (r ∷ rs) = broughtOf r ++ inputOf rs
+use Rattle.engine.specs.Run.{Outcome, Start, Sheet, Bad, linesOf, ranOf, pageBy, printed}
 
 -- how many whole lines these are
 unfoldable pub lineEnds : List ℕ → ℕ
@@ -20,8 +15,18 @@ lineEnds (b ∷ bs) =
     when eqb b 10 gives suc (lineEnds bs) else
     lineEnds bs
 
--- where a read failed, `input failed after line k` and nothing of the sheet; else the run of the input (engine, Run)
-unfoldable pub writtenOf : Bool → List ℕ → List ℕ
-writtenOf failed input =
+-- where a read failed, `input failed after line k` and nothing of the sheet; else what the input comes to, from o on (engine, Run)
+unfoldable pub writtenOf : Bool → Outcome → Bool → List ℕ → List ℕ
+writtenOf rounds o failed input =
     when failed gives failedLine (lineEnds input) else
-    runOf input
+    printed (pageBy rounds) (ranOf o input)
+
+-- a sheet, and no bad line
+abbrev pub sheetIn : Outcome → Bool
+sheetIn Start = false
+sheetIn (Sheet s) = true
+sheetIn (Bad k) = false
+
+-- whether a sheet is saved: where there is a file, no read failed, no line was bad, and there is one
+unfoldable pub savedOf : Bool → Outcome → Bool → List ℕ → Bool
+savedOf filed o failed input = filed && (not failed && (sheetIn (ranOf o input) && ltb 0 (length (linesOf input))))

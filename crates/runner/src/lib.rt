@@ -1,159 +1,120 @@
-// All reads and writes of the program. What the bytes mean is the engine's; this only carries them.
+// A whole run: its reads, what is saved, what is written. What the bytes mean is the engine's, and each call of C stands in `files`; this only carries them.
+// No call but `files::save` writes a file, and `save_sheet` alone calls it: so after a bad line or a failed read the file holds what it held.
+mod reading;
+mod writing;
+
 use engine::State;
+use files::MOST;
 use line::LONGEST;
 use page::LARGEST;
-use page::ROOM;
+use reading::take_all;
+use writing::keep;
+use writing::tell_cut;
+use writing::write_run;
 ghost use mathlib.Core.Path.{_≡_};
-ghost use Prim.Native.Nat.{suc, _≤_, _<_};
-ghost use lib.ListN.{length, take};
-ghost use Rattle.engine.specs.Machine.{room, startOf};
-ghost use Rattle.page.specs.Writing.{Put};
-ghost use Rattle.runner.specs.Reads.{Came, read, Next, mostReads, textOf, Sent, OneRead, SomeReads, Ran, Done};
+ghost use mathlib.Core.Bool.{true, false};
+ghost use mathlib.Core.List.{[]};
+ghost use Rattle.ledger.specs.Calls.{isSheet};
+ghost use Rattle.engine.specs.Run.{Start, Sheet, zeros};
+ghost use Rattle.engine.specs.Machine.{longest, room, Begins};
+ghost use Rattle.files.specs.Load.{Load};
+ghost use Rattle.runner.specs.Done.{begunOf, Done, Fixed};
 
-// What the reads so far came to, whether there may be more, and whether the last one failed.
-struct Turn {
-    st: State,
-    more: bool,
-    failed: bool,
-}
-
-// What a read that answered got has brought: so many bytes at the start of its buffer are the next part of the input, none at its end, and below zero it failed.
-// After a bad line nothing more is read.
-fn take_part(
-    got: isize,
-    part: &[u8],
-    st: State,
-    line: &mut [u8; LONGEST],
-    sheet: &mut [u8; LARGEST],
-) -> Turn
-    ensures { λ r. ⌜ Next (room st (now (line .entry)) (now (sheet .entry))) (read got (now (part .entry))) (room (r .st) (now (line .exit)) (now (sheet .exit))) (r .more) (r .failed) ⌝ }
-{
-    let n = io::count(got, part);
-    let next = engine::feed(st, &part[..n], line, sheet);
-    Turn {
-        st: next,
-        more: (0 < n) & !next.bad,
-        failed: got < 0,
-    }
-}
-
-// The one call of read: the reads that are left to make are one fewer.
-fn read_some(input: i32, left: &mut u64, part: &mut [u8]) -> isize
-    requires { ⌜ 0 < now left ⌝ }
-    ensures { λ r. ⌜ now (left .entry) ≡ suc (now (left .exit)) ⌝ }
-    ensures { λ r. ⌜ Came (now (left .entry)) (read r (now (part .exit))) ⌝ }
-{
-    *left -= 1;
-    libc::read(input, part)
-}
-
-// One read, and what it brings.
-fn read_part(
+// A run from where its state and its memory stand.
+fn run_from(
+    program: &[u8],
     input: i32,
-    left: &mut u64,
+    output: i32,
+    rounds: bool,
+    filed: bool,
+    name: &[u8],
     st: State,
-    line: &mut [u8; LONGEST],
     sheet: &mut [u8; LARGEST],
-) -> Turn
-    requires { ⌜ 0 < now left ⌝ }
-    ensures { λ r. ⌜ now (left .entry) ≡ suc (now (left .exit)) ⌝ }
-    ensures { λ r. ⌜ OneRead (now (left .entry)) (room st (now (line .entry)) (now (sheet .entry))) (room (r .st) (now (line .exit)) (now (sheet .exit))) (r .more) (r .failed) ⌝ }
-{
-    let mut part = io::buffer();
-    let got = read_some(input, left, &mut part);
-    take_part(got, &part, st, line, sheet)
-}
-
-// The whole input. A loop has to end, so reading on past 2^64 - 1 reads counts as a failure.
-fn read_all(input: i32, line: &mut [u8; LONGEST], sheet: &mut [u8; LARGEST]) -> Turn
-    ensures { λ r. ⌜ SomeReads mostReads (room startOf (now (line .entry)) (now (sheet .entry))) (room (r .st) (now (line .exit)) (now (sheet .exit))) (r .failed) ⌝ }
-{
-    let mut st = engine::start();
-    let mut left = u64::MAX;
-    while 0 < left {
-        let turn = read_part(input, &mut left, st, line, sheet);
-        if !turn.more {
-            return turn;
-        }
-        st = turn.st;
-    }
-    Turn {
-        st,
-        more: false,
-        failed: true,
-    }
-}
-
-// What is to be written, at the start of the buffer: its length. A failed read is not the end of the input: nothing of the sheet is printed.
-fn put_text(
-    turn: Turn,
-    line: &mut [u8; LONGEST],
-    sheet: &mut [u8; LARGEST],
-    out: &mut [u8; ROOM],
-) -> usize
-    ensures { λ r. ⌜ Put (now (out .entry)) (now (out .exit)) 0 r (textOf (turn .failed) (room (turn .st) (now (line .entry)) (now (sheet .entry)))) ⌝ }
-    ensures { λ r. ⌜ r ≤ length (now (out .exit)) ⌝ }
-{
-    if turn.failed {
-        return page::put_failed(out, turn.st.lines);
-    }
-    let end = engine::finish(turn.st, line, sheet);
-    engine::print(end, sheet, out)
-}
-
-// The one call that writes to the output.
-fn send(output: i32, text: &[u8]) -> bool
-    ensures { λ r. ⌜ Sent (now (text .entry)) ⌝ }
-{
-    io::write_all(output, text)
-}
-
-// Only what the reads came to is written; of a failure standard error is told too.
-fn write_text(output: i32, text: &[u8], failed: bool)
-    requires { ⌜ Ran (now text) failed ⌝ }
-    ensures { λ _. ⌜ Sent (now (text .entry)) ⌝ }
-{
-    if failed {
-        io::write_all(
-            libc::STDERR_FILENO,
-            b"legsheet: the input could not be read to its end, so no sheet is printed; give it again as a whole\n",
-        );
-    }
-    if !send(output, text) {
-        io::write_all(
-            libc::STDERR_FILENO,
-            b"legsheet: the output could not be written, and what is there is cut off; run it again\n",
-        );
-    }
-}
-
-// What was read, as text at the start of the buffer.
-struct Text {
-    length: usize,
-    failed: bool,
-}
-
-// From the input to what is to be written.
-fn read_text(input: i32, out: &mut [u8; ROOM]) -> Text
-    ensures { λ r. ⌜ Ran (take (r .length) (now (out .exit))) (r .failed) ⌝ }
-    ensures { λ r. ⌜ r .length ≤ length (now (out .exit)) ⌝ }
+)
+    requires { ⌜ Begins (begunOf st (now sheet)) (room st (zeros longest) (now sheet)) ⌝ }
+    ensures { λ _. ⌜ Done input output rounds filed (now (name .entry)) (begunOf st (now (sheet .entry))) ⌝ }
 {
     let mut line = [0u8; LONGEST];
-    let mut sheet = [0u8; LARGEST];
-    let turn = read_all(input, &mut line, &mut sheet);
-    let length = put_text(turn, &mut line, &mut sheet, out);
-    Text {
-        length,
-        failed: turn.failed,
-    }
+    let end = take_all(input, st, &mut line, sheet);
+    let ok = keep(filed, name, end, sheet);
+    let out = write_run(program, output, rounds, name, ok, end, sheet);
+    tell_cut(program, out);
 }
 
-// One run, from one descriptor to another.
-pub fn run(input: i32, output: i32)
-    ensures { λ _. ⌜ Done ⌝ }
+// A run from no sheet.
+fn run_new(program: &[u8], input: i32, output: i32, rounds: bool, filed: bool, name: &[u8])
+    ensures { λ _. ⌜ Done input output rounds filed (now (name .entry)) Start ⌝ }
 {
-    let mut out = [0u8; ROOM];
-    let text = read_text(input, &mut out);
-    let n = text.length;
-    write_text(output, &out[0..n], text.failed);
+    let mut sheet = [0u8; LARGEST];
+    run_from(
+        program,
+        input,
+        output,
+        rounds,
+        filed,
+        name,
+        engine::start(),
+        &mut sheet,
+    );
+}
+
+// One run, from one descriptor to another, by one page or the other.
+pub fn run(program: &[u8], input: i32, output: i32, rounds: bool)
+    ensures { λ _. ⌜ Done input output rounds false [] Start ⌝ }
+{
+    run_new(program, input, output, rounds, false, &program[0..0]);
+}
+
+// The same, and the sheet is then in the file of this name.
+pub fn run_to(program: &[u8], input: i32, output: i32, name: &[u8])
+    ensures { λ _. ⌜ Done input output false true (now (name .entry)) Start ⌝ }
+{
+    run_new(program, input, output, false, true, name);
+}
+
+// Lines on the sheet in these bytes, which the file of this name holds.
+fn fix_sheet(program: &[u8], input: i32, output: i32, name: &[u8], bytes: &[u8])
+    requires { ⌜ Load (now name) (now bytes) true ⌝ }
+    ensures { λ _. ⌜ Fixed input output (now (name .entry)) ⌝ }
+{
+    if ledger::total_refusal(bytes) != 0 {
+        files::tell(
+            program,
+            b": the file is no sheet; make one with legsheet FILE\n",
+        );
+        let out = files::refused_7(files::begin(output));
+        tell_cut(program, out);
+        return;
+    }
+    let mut sheet = [0u8; LARGEST];
+    text::put_bytes(&mut sheet, 0, bytes);
+    run_from(
+        program,
+        input,
+        output,
+        false,
+        true,
+        name,
+        engine::fixing(bytes.len()),
+        &mut sheet,
+    );
+}
+
+// Lines on the sheet in the file of this name: all of them, or the file is as it was.
+pub fn fix(program: &[u8], input: i32, output: i32, name: &[u8])
+    ensures { λ _. ⌜ Fixed input output (now (name .entry)) ⌝ }
+{
+    let mut file = [0u8; MOST];
+    let loaded = files::load(name, &mut file);
+    if !loaded.ok {
+        files::tell(
+            program,
+            b": the file could not be read; name a sheet file that is there\n",
+        );
+        let out = files::cannot_read(files::begin(output), name);
+        tell_cut(program, out);
+        return;
+    }
+    let n = loaded.length;
+    fix_sheet(program, input, output, name, &file[0..n]);
 }

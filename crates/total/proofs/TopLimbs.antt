@@ -5,8 +5,8 @@ use mathlib.Core.List.{List, [], _∷_}
 use Prim.Native.Nat.{ℕ, zero, suc, _+_, _*_, _^_, _-_, _<_, _≤_}
 use native.Mathlib.Nat.{mul-le-mul-left, le-trans, lt-of-lt-of-le, mod-eq-of-lt, le-of-eq}
 use native.Mathlib.Omega.{arith}
-use borrow.Author.Tests.{le-leb, lt-leb}
-use lib.Dec.{ltb, lit≤, lit<}
+use borrow.Author.Tests.{lt-leb}
+use lib.Dec.{ltb, leb, lit≤, lit<}
 use lib.ListN.{length, take, getD}
 use lib.Pow.{pow-pos}
 use lib.Seq.{take-all, length-take-le}
@@ -14,7 +14,7 @@ use lib.Ieee.{round, binary64}
 use Rattle.bits.specs.Rounded.{Kept, roundedOf}
 use Rattle.bits.specs.laws.Keeping.{kept-digits, kept-self, kept-scaled}
 use Rattle.bits.specs.laws.Once.{rounded-kept, rounded-exact, round-shift}
-use Rattle.total.specs.Total.{val, N, Half, limbsOf, complement, roundTotal}
+use Rattle.total.specs.Total.{val, N, Half, limbsOf, complement, sizeOfTotal, roundTotal}
 use Rattle.total.specs.Carry.{W}
 use Rattle.total.specs.laws.Limbs.{Fit, W-pow, W-next, val-below, val-lt, val-limbs, val-next}
 use Rattle.total.proofs.FirstLimbs.{val-none}
@@ -80,27 +80,34 @@ half-is = refl
 top-of : (l : List ℕ) → length l ≡ 34 → val l ≡ val (take 33 l) + W 33 * getD l 33 0
 top-of l e = ap val (sym (take-all 34 l (le-of-eq e))) ∙ val-next l 33 (subst (λ (n : ℕ). 33 < n) (sym e) (lit< tt))
 
-pub round-plus : (l : List ℕ) → length l ≡ 34 → Fit l → getD l 33 0 < 0x8000_0000_0000_0000 → round binary64 false (val l) (2 ^ 1074) ≡ roundTotal (val l)
-unfolding roundTotal
-round-plus l e f h =
-    let b : val l < Half = subst (λ (v : ℕ). v < Half) (sym (top-of l e)) (at-most (W 33) 0x8000_0000_0000_0000 Half (getD l 33 0) (val (take 33 l)) half-is (fit-first l 33 (subst (λ (n : ℕ). 33 ≤ n) (sym e) (lit≤ tt)) f) h) in
-    sym (ap (λ (c : Bool). cond c (round binary64 true (N - val l) (2 ^ 1074)) (round binary64 false (val l) (2 ^ 1074))) (lt-leb Half (val l) b))
+-- below zero, by the highest limb
+pub plus : (l : List ℕ) → length l ≡ 34 → Fit l → getD l 33 0 < 0x8000_0000_0000_0000 → leb Half (val l) ≡ false
+plus l e f h =
+    lt-leb Half (val l)
+    (subst (λ (v : ℕ). v < Half) (sym (top-of l e)) (at-most (W 33) 0x8000_0000_0000_0000 Half (getD l 33 0) (val (take 33 l)) half-is (fit-first l 33 (subst (λ (n : ℕ). 33 ≤ n) (sym e) (lit≤ tt)) f) h))
+
+pub minus : (l : List ℕ) → length l ≡ 34 → 0x8000_0000_0000_0000 ≤ getD l 33 0 → Half ≤ val l
+minus l e h = subst (λ (v : ℕ). Half ≤ v) (sym (top-of l e)) (at-least (W 33) 0x8000_0000_0000_0000 Half (getD l 33 0) (val (take 33 l)) half-is h)
 
 half-pos : 0 < Half
 unfolding Half
 half-pos = pow-pos 2175
 
-pub round-minus : (l m : List ℕ) → length l ≡ 34 → Fit l → 0x8000_0000_0000_0000 ≤ getD l 33 0 → m ≡ limbsOf (N - val l) → round binary64 true (val m) (2 ^ 1074) ≡ roundTotal (val l)
-unfolding roundTotal
-round-minus l m e f h k =
-    let a : Half ≤ val l = subst (λ (v : ℕ). Half ≤ v) (sym (top-of l e)) (at-least (W 33) 0x8000_0000_0000_0000 Half (getD l 33 0) (val (take 33 l)) half-is h) in
-    let p : 0 < val l = lt-of-lt-of-le half-pos a in
-    let s : val m ≡ N - val l = ap val k ∙ val-limbs (N - val l) ∙ mod-eq-of-lt (less N (val l) p (val-lt l e f)) in
-    ap (λ (n : ℕ). round binary64 true n (2 ^ 1074)) s
-    ∙ sym (ap (λ (c : Bool). cond c (round binary64 true (N - val l) (2 ^ 1074)) (round binary64 false (val l) (2 ^ 1074))) (le-leb Half (val l) a))
+-- then the size is N less it
+pub size-minus : (l m : List ℕ) → length l ≡ 34 → Fit l → Half ≤ val l → m ≡ limbsOf (N - val l) → val m ≡ N - val l
+size-minus l m e f a k = ap val k ∙ val-limbs (N - val l) ∙ mod-eq-of-lt (less N (val l) (lt-of-lt-of-le half-pos a) (val-lt l e f))
   where
     less : (n v : ℕ) → 0 < v → v < n → n - v < n
     less n v p h = omega arith
+
+-- a sign and a size are what is rounded
+pub round-signed : (v : ℕ) → round binary64 (leb Half v) (sizeOfTotal v) (2 ^ 1074) ≡ roundTotal v
+unfolding sizeOfTotal roundTotal
+round-signed v = go (leb Half v)
+  where
+    go : (b : Bool) → round binary64 b (cond b (N - v) v) (2 ^ 1074) ≡ cond b (round binary64 true (N - v) (2 ^ 1074)) (round binary64 false v (2 ^ 1074))
+    go true = refl
+    go false = refl
 
 -- ---- digits turned over, and 1 added
 pub negate : (t v : ℕ) (r : List ℕ) → t + v + 1 ≡ N → r ≡ limbsOf (t + complement false (W 0 * 1)) → r ≡ limbsOf (N - v)

@@ -4,6 +4,7 @@ use mathlib.Core.Bool.{Bool, true, false, cond}
 use mathlib.Core.List.{List, [], _∷_}
 use lib.Dec.{leb}
 use lib.Ieee.{Float, nan, inf, fin, up, down, neg, round, binary64}
+use Rattle.total.specs.declared.rounding.Signed.{Signed}
 
 -- the modulus
 unfoldable pub N : ℕ
@@ -53,6 +54,14 @@ addOf t k x = (t + unitsOf k x) % N
 -- and with x taken away k times, which is -x added
 unfoldable pub takeOf : ℕ → ℕ → Float → ℕ
 takeOf t k x = (t + unitsOf k (neg x)) % N
+
+-- the number that a total stands for: its size, below zero from Half on
+unfoldable pub sizeOfTotal : ℕ → ℕ
+sizeOfTotal v = cond (leb Half v) (N - v) v
+
+-- sign and size, the size in limbs
+unfoldable pub signedOf : ℕ → Signed
+signedOf v = record { negative = leb Half v; limbs = limbsOf (sizeOfTotal v) }
 
 -- the total rounded once: to the nearest f64, ties to even, too large is infinite, zero is +0
 unfoldable pub roundTotal : ℕ → Float

@@ -1,9 +1,11 @@
 // The exact total of a sheet: f64s added and taken away with no rounding, and rounded once when it is read.
 ghost use mathlib.Core.Path.{_≡_};
-ghost use Rattle.total.specs.Total.{val, limbsOf, addOf, takeOf, roundTotal};
+ghost use Rattle.total.specs.Total.{val, limbsOf, addOf, takeOf, sizeOfTotal, signedOf, roundTotal};
 
 mod limbs;
 mod rounding;
+
+pub use rounding::Signed;
 
 pub struct Total {
     pub limbs: [u64; 34],
@@ -48,6 +50,15 @@ impl Total {
     {
         self.limbs
     }
+
+    // Its sign and its size, a whole number of units of 2^-1074.
+    pub fn size(self) -> Signed
+        ensures { λ r. ⌜ (r ≡ signedOf (val (self .limbs))) × (val (r .limbs) ≡ sizeOfTotal (val (self .limbs))) ⌝ }
+    {
+        let held = self.limbs;
+        rounding::sized(held)
+    }
+
     // The total rounded once.
     pub fn rounded(self) -> f64
         ensures { λ r. ⌜ r ≡ roundTotal (val (self .limbs)) ⌝ }

@@ -5,7 +5,7 @@ ghost use Prim.Native.Nat.{_+_, _-_, _^_, _≤_, _<_};
 ghost use lib.Dec.{ltb};
 ghost use lib.ListN.{take, getD};
 ghost use lib.Ieee.{round, binary64};
-ghost use Rattle.total.specs.Total.{val, limbsOf, roundTotal, N};
+ghost use Rattle.total.specs.Total.{val, limbsOf, sizeOfTotal, signedOf, roundTotal, N};
 
 // Whether any of the first n limbs is not 0.
 fn any_below(limbs: [u64; 34], n: usize) -> bool
@@ -76,12 +76,32 @@ fn round_size(negative: bool, limbs: [u64; 34]) -> f64
     )
 }
 
-pub(crate) fn round_limbs(limbs: [u64; 34]) -> f64
-    ensures { λ r. ⌜ r ≡ roundTotal (val limbs) ⌝ }
+// The sign of a number and its size.
+pub struct Signed {
+    pub negative: bool,
+    pub limbs: [u64; 34],
+}
+
+pub(crate) fn sized(limbs: [u64; 34]) -> Signed
+    ensures { λ r. ⌜ (r ≡ signedOf (val limbs)) × (val (r .limbs) ≡ sizeOfTotal (val limbs)) ⌝ }
 {
     if limbs[33] >= 0x8000_0000_0000_0000 {
         let size = negated(limbs);
-        return round_size(true, size);
+        return Signed {
+            negative: true,
+            limbs: size,
+        };
     }
-    round_size(false, limbs)
+    Signed {
+        negative: false,
+        limbs: limbs,
+    }
+}
+
+pub(crate) fn round_limbs(limbs: [u64; 34]) -> f64
+    ensures { λ r. ⌜ r ≡ roundTotal (val limbs) ⌝ }
+{
+    let signed = sized(limbs);
+    let size = signed.limbs;
+    round_size(signed.negative, size)
 }

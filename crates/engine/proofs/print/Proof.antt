@@ -1,8 +1,7 @@
 -- The bad line, or the page of the sheet in its memory.
-use native.Mathlib.Nat.{sub-zero}
 use borrow.Author.Needs.{needs}
-use Rattle.engine.specs.Machine.{printOf}
-use Rattle.engine.proofs.Taking.{part-taken}
+use Rattle.engine.specs.Run.{pageBy, printed}
+use Rattle.engine.specs.Machine.{endedOf}
 use Rattle.engine.proofs.print.Statement.{statement}
 use Rattle.engine.proofs.print.Tie as tie
 
@@ -10,33 +9,30 @@ put-bad-requires : tie.Need-put-bad-requires
 put-bad-requires c κs = search needs
 
 returns : tie.Need-returns
-unfolding printOf
+unfolding endedOf printed
 returns c = (simp (c .before .before .if1 .taken) (c .put-bad .ensures .0), c .put-bad .ensures .1)
 
-least-requires : tie.Need-least-requires
-least-requires c κs = search needs
+bytes-requires : tie.Need-bytes-requires
+bytes-requires c κs = search needs
 
-sub-put-page : tie.Need-sub-put-page
-sub-put-page c = search needs
+put-rounds-requires : tie.Need-put-rounds-requires
+put-rounds-requires c κs = search needs
 
-part-put-page-start : tie.Need-part-put-page-start
-part-put-page-start c = search needs
+returns-2 : tie.Need-returns-2
+unfolding endedOf printed pageBy
+returns-2 c =
+    (simp (c .before .before .before .before .if1 .left, c .before .before .before .if2 .taken) (rw (c .before .bytes .ensures) at (c .put-rounds .ensures .0)), c .put-rounds .ensures .1)
 
-part-put-page-end : tie.Need-part-put-page-end
-part-put-page-end c = search needs
+bytes-requires-2 : tie.Need-bytes-requires-2
+bytes-requires-2 c κs = search needs
 
 put-page-requires : tie.Need-put-page-requires
 put-page-requires c κs = search needs
 
-returns-2 : tie.Need-returns-2
-unfolding printOf
-returns-2 c =
-    let a = c .before .before .before .before .before .before .args in
-    let n = c .before .before .before .least in (
-      simp (c .before .before .before .before .before .if1 .left)
-          (rw (sub-zero (n .result), part-taken (a .sheet .now) (a .st .size) (n .result) (n .ensures)) at (c .put-page .ensures .0)),
-      c .put-page .ensures .1,
-    )
+returns-3 : tie.Need-returns-3
+unfolding endedOf printed pageBy
+returns-3 c =
+    (simp (c .before .before .before .before .if1 .left, c .before .before .before .if2 .left) (rw (c .before .bytes2 .ensures) at (c .put-page .ensures .0)), c .put-page .ensures .1)
 
 pub print-spec : {M : Type 1} → statement M
 print-spec =
@@ -44,9 +40,9 @@ print-spec =
     (tie.spec
     put-bad-requires
     returns
-    least-requires
-    sub-put-page
-    part-put-page-start
-    part-put-page-end
+    bytes-requires
+    put-rounds-requires
+    returns-2
+    bytes-requires-2
     put-page-requires
-    returns-2)
+    returns-3)

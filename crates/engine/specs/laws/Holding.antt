@@ -9,7 +9,7 @@ use mathlib.Core.List.{List, [], _∷_, _++_}
 use lib.ListN.{length, take, drop, set, replicate, length-append, length-drop, length-set, length-replicate, replicate-append-replicate}
 use lib.Seq.{take-at, take-suc-set, length-take-le}
 use lib.Dec.{eqb}
-use borrow.Author.Tests.{lt-ltb, le-ltb, eq-eqb, ne-eqb}
+use borrow.Author.Tests.{lt-ltb, le-ltb}
 use Rattle.line.specs.declared.Number.{Number}
 use Rattle.line.specs.declared.Number.the-variants.{Value, Not}
 use Rattle.line.specs.declared.Line.{Line}
@@ -21,8 +21,8 @@ use Rattle.ledger.specs.Calls.{blankRefusal, blankOf}
 use Rattle.sheet.specs.Edit.{editRefusal, editOf}
 use Rattle.page.specs.Page.{largest}
 use Rattle.engine.specs.declared.State.{State}
-use Rattle.engine.specs.Run.{Outcome, Start, Sheet, Bad, zeros, countOn, entry, editOn, lineOn, printed}
-use Rattle.engine.specs.Machine.{longest, Held, Room, held, room, between, onPart, lineNumber, countLine, editLine, takeLine, longerOf, stepOf, printOf}
+use Rattle.engine.specs.Run.{Outcome, Start, Sheet, Bad, zeros, countOn, entry, editOn, lineOn, closed}
+use Rattle.engine.specs.Machine.{longest, Held, Room, held, room, between, onPart, lineNumber, countLine, editLine, takeLine, longerOf, stepOf, endedOf, Stored, Begins}
 use Rattle.engine.specs.laws.Steps.{step-idle, step-end, end-long, end-taken, step-over, step-more}
 use Rattle.engine.specs.laws.Lengths.{length-zeros, length-blank, length-edit}
 
@@ -36,16 +36,9 @@ pub record Open (w : Room) (k : ℕ) (p : List ℕ) : Type 0 where
   pub short : length p ≤ longest → (w .st .held ≡ length p) × (take (length p) (w .line) ≡ p)
   pub long : longest < length p → longest < w .st .held
 
--- the sheet s stands at the front of the memory
-pub record Stored (s : List ℕ) (st : State) (m : List ℕ) : Type 0 where
-  pub size : st .size ≡ length s
-  pub whole : length m ≡ largest
-  pub fits : length s ≤ largest
-  pub bytes : take (length s) m ≡ s
-
 abbrev pub Holds : Room → ℕ → Outcome → List ℕ → Type 0
-Holds w k Start p = Open w k p × (k ≡ 0) × (w .sheet ≡ zeros largest)
-Holds w k (Sheet s) p = Open w k p × (0 < k) × Stored s (w .st) (w .sheet)
+Holds w k Start p = Open w k p × (w .st .begun ≡ false) × (k ≡ 0) × (w .sheet ≡ zeros largest)
+Holds w k (Sheet s) p = Open w k p × (w .st .begun ≡ true) × Stored s (w .st) (w .sheet)
 Holds w k (Bad j) p = (w .st .bad ≡ true) × (w .st .lines ≡ j)
 
 -- ---- the memory
@@ -72,15 +65,15 @@ part-stored st m n f h whole size keep =
 -- ---- one line
 
 -- between two lines nothing of the next is held
-pub open-between : (k n : ℕ) (line m : List ℕ) → length line ≡ longest → Open (room (between k n false) line m) k []
-open-between k n line m l = record { good = refl; lines = refl; buffer = l; short = λ h. (refl, refl); long = λ h. omega arith }
+open-between : (w : Room) (k : ℕ) → w .st .bad ≡ false → w .st .lines ≡ k → w .st .held ≡ 0 → length (w .line) ≡ longest → Open w k []
+open-between w k good lines none l = record { good = good; lines = lines; buffer = l; short = λ h. (none, refl); long = λ h. omega arith }
 
 -- the machine's call for a line and the run's agree
 module _ (line : List ℕ) (buffer : length line ≡ longest) where
   call-holds : (k n : ℕ) (m : List ℕ) (f : List ℕ → List ℕ) → n ≤ largest → length m ≡ largest → length (f (take n m)) ≡ length (take n m) → (t : Bool)
       → Holds (room (between (suc k) n (not t)) line (onPart n f m)) (suc k) (cond t (Sheet (f (take n m))) (Bad (suc k))) []
   call-holds k n m f h whole keep true =
-      (open-between (suc k) n line (onPart n f m) buffer, omega arith, part-stored (between (suc k) n false) m n f h whole refl keep)
+      (open-between (room (between (suc k) n false) line (onPart n f m)) (suc k) refl refl refl buffer, refl, part-stored (between (suc k) n false) m n f h whole refl keep)
   call-holds k n m f h whole keep false = (refl, refl)
 
   count-holds : (m : List ℕ) → m ≡ zeros largest → (x : Number) → Holds (room (countLine 1 m x .st) line (countLine 1 m x .sheet)) 1 (countOn x) []
@@ -111,12 +104,12 @@ module _ (line : List ℕ) (buffer : length line ≡ longest) where
 -- a byte that is no line end joins the part, and leaves the sheet alone
 module _ (w : Room) (k : ℕ) (p : List ℕ) (x : ℕ) (o : Open w k p) (other : x ≡ 10 → ⊥) where
   abbrev pub Joined : Room → Type 0
-  Joined v = Open v k (p ++ (x ∷ [])) × (v .sheet ≡ w .sheet) × (v .st .size ≡ w .st .size)
+  Joined v = Open v k (p ++ (x ∷ [])) × (v .sheet ≡ w .sheet) × (v .st .size ≡ w .st .size) × (v .st .begun ≡ w .st .begun)
 
   joined-over : longest < length p → Joined w
   joined-over h =
       let l = length-append p (x ∷ []) in
-      (record { good = o .good; lines = o .lines; buffer = o .buffer; short = λ s. absurd (omega arith); long = λ s. o .long h }, refl, refl)
+      (record { good = o .good; lines = o .lines; buffer = o .buffer; short = λ s. absurd (omega arith); long = λ s. o .long h }, refl, refl, refl)
 
   joined-more : length p ≤ longest → Joined (room (longerOf (w .st)) (set (w .line) (w .st .held) x) (w .sheet))
   joined-more h =
@@ -132,6 +125,7 @@ module _ (w : Room) (k : ℕ) (p : List ℕ) (x : ℕ) (o : Open w k p) (other :
           );
           long = λ s. omega arith;
         },
+        refl,
         refl,
         refl,
       )
@@ -160,39 +154,47 @@ module _ (w : Room) (k : ℕ) (p : List ℕ) (o : Open w k p) (few : k + 1 < 2 ^
       sym (end-taken (w .st) (w .line) (w .sheet) (t .st) (t .sheet) (omega arith) refl ∙ step-end (w .st) (w .line) (w .sheet) 10 (o .good) refl)
       ∙ ap (λ (s : List ℕ). room (takeLine (w .st) s (w .sheet) .st) (w .line) (takeLine (w .st) s (w .sheet) .sheet)) is
 
-  first-line : k ≡ 0 → takeLine (w .st) p (w .sheet) ≡ countLine 1 (w .sheet) (decimalOf p)
+  first-line : w .st .begun ≡ false → k ≡ 0 → takeLine (w .st) p (w .sheet) ≡ countLine 1 (w .sheet) (decimalOf p)
   unfolding takeLine
-  first-line z = rw number (simp (eq-eqb (w .st .lines) 0 (o .lines ∙ z), z))
+  first-line none z = rw number (simp (none, z))
 
-  later-line : 0 < k → takeLine (w .st) p (w .sheet) ≡ editLine (suc k) (w .st .size) (w .sheet) (lineOf p)
+  later-line : w .st .begun ≡ true → takeLine (w .st) p (w .sheet) ≡ editLine (suc k) (w .st .size) (w .sheet) (lineOf p)
   unfolding takeLine
-  later-line pos = rw number (simp (ne-eqb (w .st .lines) 0 (λ z. omega (arith, o .lines))))
+  later-line begun = rw number (simp begun)
 
 pub ended : (w : Room) (k : ℕ) (o : Outcome) (p : List ℕ) → Holds w k o p → k + 1 < 2 ^ 64 → Holds (stepOf w 10) (suc k) (lineOn (suc k) o p) []
 unfolding lineOn countOn editOn
-ended w k Start p (o, z, e) few =
+ended w k Start p (o, none, z, e) few =
     below longest (length p)
     (λ h. let bad : countOn (decimalOf p) ≡ Bad (suc k) = rw (long-count p h, z) refl in rw bad (ended-long w k p o few h))
-    (λ h. rw (ended-short w k p o few h) (rw (first-line w k p o few z) (rw z (count-holds (w .line) (o .buffer) (w .sheet) e (decimalOf p)))))
-ended w k (Sheet s) p (o, pos, held) few =
+    (λ h. rw (ended-short w k p o few h) (rw (first-line w k p o few none z) (rw z (count-holds (w .line) (o .buffer) (w .sheet) e (decimalOf p)))))
+ended w k (Sheet s) p (o, begun, held) few =
     below longest (length p)
     (λ h. let bad : editOn (suc k) s (lineOf p) ≡ Bad (suc k) = rw (long-line p h) refl in rw bad (ended-long w k p o few h))
-    (λ h. rw (ended-short w k p o few h) (rw (later-line w k p o few pos) (edit-holds (w .line) (o .buffer) k s (w .sheet) (w .st) held (lineOf p))))
+    (λ h. rw (ended-short w k p o few h) (rw (later-line w k p o few begun) (edit-holds (w .line) (o .buffer) k s (w .sheet) (w .st) held (lineOf p))))
 ended w k (Bad j) p (bad, is) few = rw (← step-idle (w .st) (w .line) (w .sheet) 10 bad) (bad, is)
 
 pub more : (w : Room) (k : ℕ) (o : Outcome) (p : List ℕ) (x : ℕ) → Holds w k o p → (x ≡ 10 → ⊥) → Holds (stepOf w x) k o (p ++ (x ∷ []))
-more w k Start p x (o, z, e) other =
+more w k Start p x (o, none, z, e) other =
     let j = joined w k p x o other in
-    (j .0, z, j .1 ∙ e)
-more w k (Sheet s) p x (o, pos, held) other =
+    (j .0, j .3 ∙ none, z, j .1 ∙ e)
+more w k (Sheet s) p x (o, begun, held) other =
     let j = joined w k p x o other in
-    (j .0, pos, record { size = j .2 ∙ held .size; whole = ap length (j .1) ∙ held .whole; fits = held .fits; bytes = rw (j .1) (held .bytes) })
+    (j .0, j .3 ∙ begun, record { size = j .2 ∙ held .size; whole = ap length (j .1) ∙ held .whole; fits = held .fits; bytes = rw (j .1) (held .bytes) })
 more w k (Bad j) p x (bad, is) other = rw (← step-idle (w .st) (w .line) (w .sheet) x bad) (bad, is)
 
--- ---- what is printed
+-- ---- from the first to the last
 
-pub prints : (w : Room) (k : ℕ) (o : Outcome) (p : List ℕ) → Holds w k o p → 0 < k → printOf (w .st) (w .sheet) ≡ printed o
-unfolding printOf printed
-prints w k Start p (o, z, e) pos = absurd (omega arith)
-prints w k (Sheet s) p (o, some, held) pos = simp (o .good) (rw (held .size, held .bytes) refl)
-prints w k (Bad j) p (bad, is) pos = simp bad (rw is refl)
+pub begins : (w : Room) (o : Outcome) → Begins o w → Holds w 0 o []
+begins w Start (l, e, z) =
+    (open-between w 0 (ap (λ (st : State). st .bad) e) (ap (λ (st : State). st .lines) e) (ap (λ (st : State). st .held) e) l, ap (λ (st : State). st .begun) e, refl, z)
+begins w (Sheet s) (l, e, held) =
+    (open-between w 0 (ap (λ (st : State). st .bad) e) (ap (λ (st : State). st .lines) e) (ap (λ (st : State). st .held) e) l, ap (λ (st : State). st .begun) e, held)
+begins w (Bad j) none = absurd none
+
+-- a line was taken, or there is a sheet
+pub comes-to : (w : Room) (k : ℕ) (o : Outcome) (p : List ℕ) → Holds w k o p → (k ≡ 0 → w .st .begun ≡ true) → endedOf (w .st) (w .sheet) ≡ closed o
+unfolding endedOf closed
+comes-to w k Start p (o, none, z, e) some = let q : true ≡ false = sym (some z) ∙ none in cc
+comes-to w k (Sheet s) p (o, begun, held) some = simp (o .good) (rw (held .size, held .bytes) refl)
+comes-to w k (Bad j) p (bad, is) some = simp bad (rw is refl)

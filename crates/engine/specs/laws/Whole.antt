@@ -1,20 +1,20 @@
 -- Why the machine makes the run: its parts come to the whole, and each byte keeps what Holding says. Assumes nothing.
 use mathlib.Core.Path.{_≡_, refl, sym, ap, _∙_}
 use Prim.Native.Nat.{ℕ, suc, _+_, _^_, _<_}
+use native.Mathlib.Nat.{add-zero, zero-add}
+use native.Mathlib.Numerals.{add-one}
 use native.Mathlib.Omega.{arith}
-use mathlib.Core.Bool.{Bool, true, false, cond, not, _&&_}
+use mathlib.Core.Bool.{Bool, true, false, cond, _&&_}
 use mathlib.Core.List.{List, [], _∷_, _++_, append-assoc, append-nil}
 use lib.ListN.{length, length-append}
 use lib.Dec.{eqb}
 use borrow.Author.Tests.{eq-eqb, ne-eqb, eqb-true, eqb-false}
-use Rattle.laws.specs.Ladder.{held}
 use Rattle.line.specs.Line.{decimalOf, onto, cut}
 use Rattle.line.specs.laws.Long.{below}
-use Rattle.page.specs.Page.{largest}
-use Rattle.engine.specs.Run.{joined, Outcome, Start, Sheet, Bad, zeros, countOn, lineOn, linesOn, linesOf, printed, runOf}
-use Rattle.engine.specs.Machine.{longest, Room, room, startOf, stepOf, feedOf, feedAll, finishOf, outputOf}
+use Rattle.engine.specs.Run.{joined, Outcome, Start, Sheet, Bad, countOn, lineOn, linesOn, linesOf, closed, ranOf}
+use Rattle.engine.specs.Machine.{longest, Room, stepOf, feedOf, feedAll, finishOf, outcomeOf, Begins}
 use Rattle.engine.specs.laws.Steps.{step-idle}
-use Rattle.engine.specs.laws.Holding.{Holds, open-between, ended, more, prints}
+use Rattle.engine.specs.laws.Holding.{Holds, begins, ended, more, comes-to}
 
 -- ---- parts
 
@@ -81,87 +81,117 @@ unfolding linesOn lineOn
 lines-bad k j [] = refl
 lines-bad k j (l ∷ ls) = lines-bad (suc k) j ls
 
-and-not : (a b : Bool) → b ≡ true → (a && not b) ≡ false
-and-not true b e = rw e refl
-and-not false b e = refl
-
--- a first line that nothing was read of is an empty one
-first-or-none : (p : List ℕ) → printed (lineOn 1 Start p) ≡ printed (linesOn 1 Start (last p))
-unfolding linesOn lineOn last printed countOn decimalOf
-first-or-none [] = refl
-first-or-none (x ∷ p) = refl
+and-false : (a b : Bool) → b ≡ false → (a && b) ≡ false
+and-false true b e = e
+and-false false b e = refl
 
 module _ (w : Room) where
   finish-idle : w .st .bad ≡ true → finishOf w ≡ w
   unfolding finishOf
-  finish-idle bad = by (eqb (w .st .held) 0 && not (eqb (w .st .lines) 0)) where
+  finish-idle bad = by (eqb (w .st .held) 0 && w .st .begun) where
     by : (t : Bool) → cond t w (stepOf w 10) ≡ w
     by true = refl
     by false = sym (step-idle (w .st) (w .line) (w .sheet) 10 bad)
 
-  finish-none : w .st .lines ≡ 0 → finishOf w ≡ stepOf w 10
+  finish-none : w .st .begun ≡ false → finishOf w ≡ stepOf w 10
   unfolding finishOf
-  finish-none e = simp (and-not (eqb (w .st .held) 0) (eqb (w .st .lines) 0) (eq-eqb (w .st .lines) 0 e))
+  finish-none e = simp (and-false (eqb (w .st .held) 0) (w .st .begun) e)
 
-  finish-between : w .st .held ≡ 0 → (w .st .lines ≡ 0 → ⊥) → finishOf w ≡ w
+  finish-between : w .st .held ≡ 0 → w .st .begun ≡ true → finishOf w ≡ w
   unfolding finishOf
-  finish-between h l = simp (eq-eqb (w .st .held) 0 h, ne-eqb (w .st .lines) 0 l)
+  finish-between h b = simp (eq-eqb (w .st .held) 0 h, b)
 
   finish-within : (w .st .held ≡ 0 → ⊥) → finishOf w ≡ stepOf w 10
   unfolding finishOf
   finish-within h = simp (ne-eqb (w .st .held) 0 h)
 
-at-end : (w : Room) (k : ℕ) (o : Outcome) (p : List ℕ) → Holds w k o p → k + length p < 2 ^ 64 → outputOf w ≡ printed (linesOn (suc k) o (last p))
-unfolding outputOf linesOn last
-at-end w k Start p (o, z, e) few =
-    rw (finish-none w (o .lines ∙ z))
-    (prints (stepOf w 10) (suc k) (lineOn (suc k) Start p) [] (ended w k Start p (o, z, e) (omega arith)) (omega arith) ∙ rw z (first-or-none p))
-at-end w k (Sheet s) [] (o, pos, stored) few =
-    rw (finish-between w (o .short (omega arith) .0) (λ z. omega (arith, o .lines)))
-    (prints w k (Sheet s) [] (o, pos, stored) pos)
-at-end w k (Sheet s) (x ∷ p) (o, pos, stored) few =
+-- what the end of the input leaves: what the lines come to, and how many were taken where none was bad
+abbrev Ended : Room → ℕ → Outcome → Type 0
+Ended w n o = (outcomeOf w ≡ closed o) × (finishOf w .st .bad ≡ false → finishOf w .st .lines ≡ n)
+
+as-many : (w : Room) (o : Outcome) {n m : ℕ} → n ≡ m → Ended w n o → Ended w m o
+as-many w o e h = (h .0, λ good. h .1 good ∙ e)
+
+never-bad : {A : Type 0} (t : Bool) → t ≡ true → t ≡ false → A
+never-bad t e f =
+    let z : true ≡ false = sym e ∙ f in
+    let y : _≡_ {A = ℕ} 0 1 = cc in
+    absurd (omega arith)
+
+good-lines : (w : Room) (k : ℕ) (o : Outcome) (p : List ℕ) → Holds w k o p → w .st .bad ≡ false → w .st .lines ≡ k
+good-lines w k Start p h good = h .0 .lines
+good-lines w k (Sheet s) p h good = h .0 .lines
+good-lines w k (Bad j) p h good = never-bad (w .st .bad) (h .0) good
+
+-- a line end was the last byte, or stands for it
+line-end : (w : Room) (k : ℕ) (o : Outcome) (p : List ℕ) → Holds w k o p → k + 1 < 2 ^ 64 → finishOf w ≡ stepOf w 10 → Ended w (k + 1) (lineOn (suc k) o p)
+unfolding outcomeOf
+line-end w k o p h few e =
+    let next = ended w k o p h few in
+    rw (e, add-one k)
+    (comes-to (stepOf w 10) (suc k) (lineOn (suc k) o p) [] next (λ z. absurd (omega arith)), λ good. good-lines (stepOf w 10) (suc k) (lineOn (suc k) o p) [] next good)
+
+at-end : (w : Room) (k : ℕ) (o : Outcome) (p : List ℕ) → Holds w k o p → k + length p < 2 ^ 64 → Ended w (k + length (last p)) (linesOn (suc k) o (last p))
+unfolding outcomeOf linesOn lineOn last countOn decimalOf closed
+-- a first line that nothing was read of is an empty one
+at-end w k Start [] (o, none, z, e) few =
+    let h : Holds w k Start [] = (o, none, z, e) in
+    let bad : finishOf w .st .bad ≡ true = rw (finish-none w none) (ended w k Start [] h (omega arith) .0) in
+    (line-end w k Start [] h (omega arith) (finish-none w none) .0, λ good. never-bad (finishOf w .st .bad) bad good)
+at-end w k Start (x ∷ p) (o, none, z, e) few = line-end w k Start (x ∷ p) (o, none, z, e) (omega arith) (finish-none w none)
+at-end w k (Sheet s) [] (o, begun, stored) few =
+    rw (finish-between w (o .short (omega arith) .0) begun)
+    (comes-to w k (Sheet s) [] (o, begun, stored) (λ z. begun), λ good. o .lines ∙ sym (add-zero k))
+at-end w k (Sheet s) (x ∷ p) (o, begun, stored) few =
     let some : w .st .held ≡ 0 → ⊥ =
     λ none. below longest (length (x ∷ p)) (λ h. let l = o .long h in omega arith) (λ h. let l = o .short h .0 in omega arith) in
-    rw (finish-within w some)
-    (prints (stepOf w 10) (suc k) (lineOn (suc k) (Sheet s) (x ∷ p)) [] (ended w k (Sheet s) (x ∷ p) (o, pos, stored) (omega arith)) (omega arith))
+    line-end w k (Sheet s) (x ∷ p) (o, begun, stored) (omega arith) (finish-within w some)
 at-end w k (Bad j) p (bad, is) few =
-    rw (finish-idle w bad, lines-bad (suc k) j (last p)) (prints w 1 (Bad j) p (bad, is) (omega arith))
+    rw (finish-idle w bad, lines-bad (suc k) j (last p))
+    (comes-to w 1 (Bad j) p (bad, is) (λ z. absurd (omega arith)), λ good. never-bad (w .st .bad) bad good)
 
 -- ---- the law
 
 -- from any place of a run: what is ahead comes to what the lines ahead do
 run-from : (xs : List ℕ) (w : Room) (k : ℕ) (o : Outcome) (p : List ℕ) → Holds w k o p → k + length p + length xs < 2 ^ 64
-    → outputOf (feedOf w xs) ≡ printed (linesOn (suc k) o (ahead p xs))
+    → Ended (feedOf w xs) (k + length (ahead p xs)) (linesOn (suc k) o (ahead p xs))
 unfolding feedOf ahead linesOn
 run-from [] w k o p h few = at-end w k o p h (omega arith)
 run-from (x ∷ xs) w k o p h few = by (run-from xs) (eqb x 10) refl where
   by : ((w : Room) (k : ℕ) (o : Outcome) (p : List ℕ) → Holds w k o p → k + length p + length xs < 2 ^ 64
-      → outputOf (feedOf w xs) ≡ printed (linesOn (suc k) o (ahead p xs)))
+      → Ended (feedOf w xs) (k + length (ahead p xs)) (linesOn (suc k) o (ahead p xs)))
       → (t : Bool) → eqb x 10 ≡ t
-      → outputOf (feedOf (stepOf w x) xs) ≡ printed (linesOn (suc k) o (cond t (p ∷ ahead [] xs) (ahead (p ++ (x ∷ [])) xs)))
+      → let ls : List (List ℕ) = cond t (p ∷ ahead [] xs) (ahead (p ++ (x ∷ [])) xs) in
+      Ended (feedOf (stepOf w x) xs) (k + length ls) (linesOn (suc k) o ls)
   by rest true e =
+      let more : suc k + length (ahead [] xs) ≡ k + length (p ∷ ahead [] xs) = omega arith in
       rw (eqb-true x 10 e)
-      (rest (stepOf w 10) (suc k) (lineOn (suc k) o p) [] (ended w k o p h (omega arith)) (omega arith))
+      (as-many (feedOf (stepOf w 10) xs) (linesOn (suc (suc k)) (lineOn (suc k) o p) (ahead [] xs)) more
+      (rest (stepOf w 10) (suc k) (lineOn (suc k) o p) [] (ended w k o p h (omega arith)) (omega arith)))
   by rest false e =
       rest (stepOf w x) k o (p ++ (x ∷ [])) (more w k o p x h (eqb-false x 10 e)) (omega (arith, length-append p (x ∷ [])))
 
--- from the start, in a memory of zeros; what the line's buffer holds does not matter
-module _ (line : List ℕ) (buffer : length line ≡ longest) where
-  abbrev begun : Room
-  begun = room startOf line (zeros largest)
-
-  run-whole : (input : List ℕ) → length input < 2 ^ 64 → outputOf (feedOf begun input) ≡ runOf input
-  unfolding runOf linesOf
+-- from where it begins
+module _ (o : Outcome) (w : Room) (b : Begins o w) where
+  run-whole : (input : List ℕ) → length input < 2 ^ 64
+      → (outcomeOf (feedOf w input) ≡ ranOf o input) × (finishOf (feedOf w input) .st .bad ≡ false → finishOf (feedOf w input) .st .lines ≡ length (linesOf input))
+  unfolding ranOf linesOf
   run-whole input few =
-      run-from input begun 0 Start [] (open-between 0 0 line (zeros largest) buffer, refl, refl) (omega arith)
-      ∙ ap (λ (ls : List (List ℕ)). printed (linesOn 1 Start ls)) (ahead-cut [] input ∙ front-none (cut 10 [] input))
+      let same : ahead [] input ≡ cut 10 [] input = ahead-cut [] input ∙ front-none (cut 10 [] input) in
+      let end = run-from input w 0 o [] (begins w o b) (omega arith) in
+      (end .0 ∙ ap (λ (ls : List (List ℕ)). closed (linesOn 1 o ls)) same, λ good. end .1 good ∙ zero-add _ ∙ ap length same)
 
-  pub run-law : (parts : List (List ℕ)) → length (joined parts) < 2 ^ 64 → outputOf (feedAll begun parts) ≡ runOf (joined parts)
-  run-law parts few = ap outputOf (in-parts begun parts) ∙ run-whole (joined parts) few
+  pub run-law : (parts : List (List ℕ)) → length (joined parts) < 2 ^ 64 → outcomeOf (feedAll w parts) ≡ ranOf o (joined parts)
+  run-law parts few = ap outcomeOf (in-parts w parts) ∙ run-whole (joined parts) few .0
+
+  -- how many lines were taken, where none was bad
+  pub taken-law : (parts : List (List ℕ)) → length (joined parts) < 2 ^ 64 → finishOf (feedAll w parts) .st .bad ≡ false
+      → finishOf (feedAll w parts) .st .lines ≡ length (linesOf (joined parts))
+  taken-law parts few = rw (in-parts w parts) (run-whole (joined parts) few .1)
 
   -- after a bad line the rest need not be read
-  pub stop-law : (parts : List (List ℕ)) (rest : List ℕ) → length (joined parts ++ rest) < 2 ^ 64 → feedAll begun parts .st .bad ≡ true
-      → outputOf (feedAll begun parts) ≡ runOf (joined parts ++ rest)
+  pub stop-law : (parts : List (List ℕ)) (rest : List ℕ) → length (joined parts ++ rest) < 2 ^ 64 → feedAll w parts .st .bad ≡ true
+      → outcomeOf (feedAll w parts) ≡ ranOf o (joined parts ++ rest)
   stop-law parts rest few bad =
-      ap outputOf (sym (feed-idle rest (feedAll begun parts) bad) ∙ ap (λ (w : Room). feedOf w rest) (in-parts begun parts) ∙ sym (feed-append begun (joined parts) rest))
-      ∙ run-whole (joined parts ++ rest) few
+      ap outcomeOf (sym (feed-idle rest (feedAll w parts) bad) ∙ ap (λ (v : Room). feedOf v rest) (in-parts w parts) ∙ sym (feed-append w (joined parts) rest))
+      ∙ run-whole (joined parts ++ rest) few .0

@@ -13,9 +13,9 @@ use Rattle.ledger.specs.Sheet.{mostRows, sizeFor, blankRow, encode}
 use Rattle.ledger.specs.Calls.{blankRefusal, blankOf}
 use Rattle.demands.specs.Edits.{Edit, answer, after, run, answerIn, accepted, fresh, blanks}
 use Rattle.demands.specs.Demand3.{demand-3}
-use Rattle.page.specs.Text.{decimal}
+use Rattle.text.specs.Text.{decimal}
 use Rattle.page.specs.Page.{pageOf, badLine}
-use Rattle.engine.specs.Run.{Outcome, Start, Sheet, Bad, zeros, countOn, editOn, lineOn, linesOn, linesOf, printed, runOf}
+use Rattle.engine.specs.Run.{Outcome, Start, Sheet, Bad, zeros, countOn, editOn, lineOn, linesOn, linesOf, closed, ranOf, printed, runOf}
 use Rattle.entered.specs.Input.{textOf, editLines, sheetText, AllFit, Fits, refusedLine}
 use Rattle.engine.specs.laws.Lengths.{length-zeros}
 use Rattle.engine.specs.laws.Whole.{lines-bad}
@@ -39,6 +39,10 @@ lines-entered r es =
     cut-before 10 [] (decimal r) (editLines es) (from-less 11 33 (decimal r) (omega arith) (from-decimal r)) ∙ ap (λ (ls : List (List ℕ)). decimal r ∷ ls) (lines-edits es)
 
 -- ---- what they come to
+
+-- and what is printed of it
+shown : Outcome → List ℕ
+shown o = printed pageOf (closed o)
 
 run-more : (s : List ℕ) (es : List Edit) (e : Edit) → run s (es ++ (e ∷ [])) ≡ after (run s es) e
 unfolding run
@@ -71,15 +75,15 @@ module _ (r : ℕ) (few : r ≤ mostRows) where
       (rw (refused-as done e, run-more (blankOf z r) done e) refl)
 
   edits : (k : ℕ) (done es : List Edit) → AllFit es → 0 < k
-      → printed (linesOn k (Sheet (sheet done)) (texts es)) ≡ cond (eqb (refusedLine r k es) 0) (pageOf (sheet (done ++ es))) (badLine (refusedLine r k es))
-  unfolding linesOn lineOn printed texts refusedLine
+      → shown (linesOn k (Sheet (sheet done)) (texts es)) ≡ cond (eqb (refusedLine r k es) 0) (pageOf (sheet (done ++ es))) (badLine (refusedLine r k es))
+  unfolding linesOn lineOn shown closed printed texts refusedLine
   edits k done [] fits pos = rw append-nil refl
   edits k done (e ∷ es) fits pos =
-      ap (λ (o : Outcome). printed (linesOn (suc k) o (texts es))) (one-edit k done e (fits .0))
+      ap (λ (o : Outcome). shown (linesOn (suc k) o (texts es))) (one-edit k done e (fits .0))
       ∙ by (accepted r e) (edits (suc k) (done ++ (e ∷ [])) es (fits .1) (omega arith)) where
         by : (t : Bool)
-            → printed (linesOn (suc k) (Sheet (sheet (done ++ (e ∷ [])))) (texts es)) ≡ cond (eqb (refusedLine r (suc k) es) 0) (pageOf (sheet ((done ++ (e ∷ [])) ++ es))) (badLine (refusedLine r (suc k) es))
-            → printed (linesOn (suc k) (cond t (Sheet (sheet (done ++ (e ∷ [])))) (Bad k)) (texts es))
+            → shown (linesOn (suc k) (Sheet (sheet (done ++ (e ∷ [])))) (texts es)) ≡ cond (eqb (refusedLine r (suc k) es) 0) (pageOf (sheet ((done ++ (e ∷ [])) ++ es))) (badLine (refusedLine r (suc k) es))
+            → shown (linesOn (suc k) (cond t (Sheet (sheet (done ++ (e ∷ [])))) (Bad k)) (texts es))
             ≡ cond (eqb (cond t (refusedLine r (suc k) es) k) 0) (pageOf (sheet (done ++ (e ∷ es)))) (badLine (cond t (refusedLine r (suc k) es) k))
         by true rest = rest ∙ rw (append-assoc done (e ∷ []) es) refl
         by false rest = rw (lines-bad (suc k) k (texts es)) (simp (ne-eqb k 0 (λ q. omega arith)))
@@ -88,9 +92,9 @@ module _ (r : ℕ) (few : r ≤ mostRows) where
 
 pub entered : (r : ℕ) (es : List Edit) → r ≤ mostRows → AllFit es → let k = refusedLine r 2 es in
     runOf (sheetText r es) ≡ cond (eqb k 0) (pageOf (encode (fresh (blanks r) es))) (badLine k)
-unfolding runOf linesOn lineOn sheet
+unfolding runOf ranOf linesOn lineOn sheet shown
 entered r es few fits =
-    ap (λ (ls : List (List ℕ)). printed (linesOn 1 Start ls)) (lines-entered r es)
-    ∙ ap (λ (o : Outcome). printed (linesOn 2 o (texts es))) (counted r few)
+    ap (λ (ls : List (List ℕ)). shown (linesOn 1 Start ls)) (lines-entered r es)
+    ∙ ap (λ (o : Outcome). shown (linesOn 2 o (texts es))) (counted r few)
     ∙ edits r few 2 [] es fits (omega arith)
     ∙ ap (λ (s : List ℕ). cond (eqb (refusedLine r 2 es) 0) (pageOf s) (badLine (refusedLine r 2 es))) (demand-3 (z r few) r (made r few) .sheet es)

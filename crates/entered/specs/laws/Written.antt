@@ -12,8 +12,8 @@ use Rattle.line.specs.declared.Number.the-variants.{Value, Not}
 use Rattle.line.specs.declared.Line.the-variants.{Edit}
 use Rattle.line.specs.Line.{digitOf, spellOf, decimalOf, patternOf, onto, cut, fieldsOf, given, editFrom, lineOf}
 use Rattle.line.specs.laws.Long.{below}
-use Rattle.page.specs.laws.Digits.{if-below, decimal-enough}
-use Rattle.page.specs.Text.{glyphOf, digitsOf, decimal, pattern, space}
+use Rattle.text.specs.laws.Digits.{if-below, decimal-enough}
+use Rattle.text.specs.Text.{glyphOf, digitsOf, decimal, pattern, space}
 use Rattle.entered.specs.Input.{editText}
 
 -- ---- digits

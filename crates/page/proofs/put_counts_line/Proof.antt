@@ -4,8 +4,9 @@ use mathlib.Core.List.{_++_, append-assoc}
 use borrow.Author.Needs.{needs}
 use Rattle.laws.specs.Ascii.{ascii}
 use Rattle.page.specs.Page.{countFields, countsLine}
-use Rattle.page.specs.Text.{decimal, end}
-use Rattle.page.specs.laws.Writing.{put-both}
+use Rattle.text.specs.Text.{decimal, end}
+use Rattle.text.specs.laws.Digits.{field-length}
+use Rattle.text.specs.laws.Writing.{put-both, placed}
 use Rattle.ledger.specs.Calls.{countOf}
 use Rattle.page.proofs.put_counts_line.Statement.{statement}
 use Rattle.page.proofs.put_counts_line.Tie as tie
@@ -17,7 +18,9 @@ put-bytes-requires : tie.Need-put-bytes-requires
 put-bytes-requires c κs = search needs
 
 put-counts-requires : tie.Need-put-counts-requires
-put-counts-requires c κs = search needs
+put-counts-requires c κs =
+    let p = c .before .before .before .put-bytes .ensures .put (omega arith) in
+    omega (arith, p .next)
 
 count-requires : tie.Need-count-requires
 count-requires c κs = search needs
@@ -36,16 +39,17 @@ unfolding countsLine
 returns c =
     let a = c .before .before .before .before .before .before .before .before .before .before .before .before .before .before .before .before .args in
     let s = a .sheet .now in
-    let p = c .before .before .before .before .before .before .before .before .before .before .before .put-bytes .ensures in
+    let p = c .before .before .before .before .before .before .before .before .before .before .before .put-bytes .ensures .put (omega arith) in
     let q = c .before .before .before .before .before .before .before .put-counts .ensures in
-    let n = c .before .before .before .before .count .ensures in
-    let r = c .before .before .put-decimal .ensures in (
+    let n = c .before .before .before .before .count in
+    let last = field-length (n .result) 10 10 (omega arith) (omega arith) (omega arith) in
+    let r = placed _ _ 21 11 (decimal (n .result) ++ end) last (omega arith) (omega (arith, p .next)) (c .before .before .put-decimal .ensures) in (
       simp append-assoc
           (simp append-assoc at
-          (put-both (a .out .now) (a .at) (ascii "counts " ++ countFields s 4) (decimal (countOf s 4) ++ end) (omega (arith, r .1))
-          (put-both (a .out .now) (a .at) (ascii "counts ") (countFields s 4) (omega (arith, q .1)) p (q .0))
-          (rw n at (r .0)))),
-      omega (arith, r .1),
+          (put-both (a .out .now) (a .at) (ascii "counts " ++ countFields s 4) (decimal (countOf s 4) ++ end) (omega (arith, p .next, r .1))
+          (put-both (a .out .now) (a .at) (ascii "counts ") (countFields s 4) (omega (arith, p .next, q .1)) p (q .0))
+          (rw (n .ensures) at (r .0)))),
+      omega (arith, p .next, r .1),
     )
 
 pub put-counts-line-spec : {M : Type 1} → statement M

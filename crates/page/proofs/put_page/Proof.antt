@@ -3,7 +3,7 @@ use native.Mathlib.Omega.{arith}
 use borrow.Author.Needs.{needs}
 use borrow.Author.Tests.{lt-ltb}
 use Rattle.page.specs.Page.{pageOf}
-use Rattle.page.specs.laws.Writing.{put-none}
+use Rattle.text.specs.laws.Writing.{put-none}
 use Rattle.page.proofs.put_page.Statement.{statement}
 use Rattle.page.proofs.put_page.Tie as tie
 

@@ -3,14 +3,14 @@ use native.Mathlib.Omega.{arith}
 use mathlib.Core.List.{_++_}
 use borrow.Author.Needs.{needs}
 use borrow.Author.Tests.{le-ltb}
-use Rattle.page.specs.Page.{rowLines, countsLine, totalLine, pageOf}
+use Rattle.page.specs.Page.{rowLines, countsLine, totalLine, shownOf, pageOf}
 use Rattle.ledger.specs.Calls.{rowsIn}
-use Rattle.page.specs.laws.Writing.{put-both, put-length}
+use Rattle.text.specs.laws.Writing.{put-both, put-length}
 use Rattle.page.proofs.put_sheet.Statement.{statement}
 use Rattle.page.proofs.put_sheet.Tie as tie
 
-row-count-requires : tie.Need-row-count-requires
-row-count-requires c κs = search needs
+shown-requires : tie.Need-shown-requires
+shown-requires c κs = search needs
 
 put-rows-requires : tie.Need-put-rows-requires
 put-rows-requires c κs = search needs
@@ -25,18 +25,19 @@ same-length : tie.Need-same-length
 same-length c = search needs
 
 returns : tie.Need-returns
-unfolding pageOf
+unfolding pageOf shownOf
 returns c =
     let a = c .before .before .before .before .before .before .before .before .before .before .before .before .before .before .before .args in
     let s = a .sheet .now in
-    let n = c .before .before .before .before .before .before .before .before .before .before .before .before .row-count .ensures in
+    let n = c .before .before .before .before .before .before .before .before .before .before .before .before .shown .ensures in
+    let fits = le-ltb _ _ (c .before .before .before .before .before .before .before .before .before .before .before .before .before .before .before .pre .0) in
     let p = c .before .before .before .before .before .before .before .before .before .before .put-rows .ensures in
     let q = c .before .before .before .before .before .before .put-counts-line .ensures in
     let r = c .before .before .put-total-line .ensures in
     let whole = put-both (a .out .now) 0 (rowLines s (rowsIn s) ++ countsLine s) (totalLine s) (omega (arith, r .1))
-    (put-both (a .out .now) 0 (rowLines s (rowsIn s)) (countsLine s) (omega (arith, q .1)) (rw (n .0) at (p .0)) (q .0))
+    (put-both (a .out .now) 0 (rowLines s (rowsIn s)) (countsLine s) (omega (arith, q .1)) (rw (n .0, fits) at (p .0)) (q .0))
     (r .0) in (
-      simp (le-ltb _ _ (c .before .before .before .before .before .before .before .before .before .before .before .before .before .before .before .pre .0)) whole,
+      simp fits whole,
       omega (arith, r .1, put-length (a .out .now) 0 (rowLines s (rowsIn s) ++ countsLine s ++ totalLine s) whole (omega (arith, r .1))),
     )
 
@@ -44,7 +45,7 @@ pub put-sheet-spec : {M : Type 1} → statement M
 put-sheet-spec =
     tie.close
     (tie.spec
-    row-count-requires
+    shown-requires
     put-rows-requires
     put-counts-line-requires
     put-total-line-requires

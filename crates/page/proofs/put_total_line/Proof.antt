@@ -5,8 +5,9 @@ use lib.Ieee.{binary64, toBits}
 use borrow.Author.Needs.{needs}
 use Rattle.laws.specs.Ascii.{ascii}
 use Rattle.page.specs.Page.{totalLine}
-use Rattle.page.specs.Text.{pattern, end}
-use Rattle.page.specs.laws.Writing.{put-both}
+use Rattle.text.specs.Text.{pattern, end}
+use Rattle.text.specs.laws.Digits.{pattern-most}
+use Rattle.text.specs.laws.Writing.{placed-both}
 use Rattle.ledger.specs.Calls.{totalOf}
 use Rattle.page.proofs.put_total_line.Statement.{statement}
 use Rattle.page.proofs.put_total_line.Tie as tie
@@ -36,11 +37,11 @@ returns c =
     let p = c .before .before .before .before .before .before .before .before .put-bytes .ensures in
     let t = c .before .before .before .before .before .total .ensures in
     let n = c .before .before .before .before .to-pattern .ensures in
-    let r = c .before .before .put-pattern .ensures in (
-      simp append-assoc
-          (put-both (a .out .now) (a .at) (ascii "total ") (pattern (toBits binary64 (totalOf (a .sheet .now))) ++ end) (omega (arith, r .1)) p (rw (n, t) at (r .0))),
-      omega (arith, r .1),
-    )
+    let q = c .before .before .put-pattern .ensures in
+    let v = toBits binary64 (totalOf (a .sheet .now)) in
+    let whole = placed-both (a .out .now) (a .at) 6 17 6 17 (ascii "total ") (pattern v ++ end) (omega arith, pattern-most v 10) (omega arith, omega arith) (omega arith, omega arith) p
+    (rw (n, t) at q) in
+    (simp append-assoc (whole .0), omega (arith, whole .1))
 
 pub put-total-line-spec : {M : Type 1} → statement M
 put-total-line-spec =

@@ -1,45 +1,27 @@
--- What is handed to the write is the start of the buffer, as far as the text goes.
-use Prim.Native.Nat.{_-_}
-use lib.ListN.{take}
+-- With no file, under no name.
+use mir.Syntax.{w32}
+use mir.ValLaws.{toZ-ofZ}
 use borrow.Author.Needs.{needs}
-use Rattle.runner.proofs.Reading.{whole}
 use Rattle.runner.proofs.run.Statement.{statement}
 use Rattle.runner.proofs.run.Tie as tie
 
-read-text-requires : tie.Need-read-text-requires
-read-text-requires c κs = search needs
+sub-run-new : tie.Need-sub-run-new
+sub-run-new c = search needs
 
-sub-write-text : tie.Need-sub-write-text
-sub-write-text c = search needs
+part-run-new-start : tie.Need-part-run-new-start
+part-run-new-start c = search needs
 
-part-write-text-start : tie.Need-part-write-text-start
-part-write-text-start c = search needs
+part-run-new-end : tie.Need-part-run-new-end
+part-run-new-end c = search needs
 
-part-write-text-end : tie.Need-part-write-text-end
-part-write-text-end c = search needs
-
-write-text-requires : tie.Need-write-text-requires
-write-text-requires c κs =
-    let read = c .before .before .read-text in
-    whole (read .result .length) (read .last .1 .0) (read .ensures .0)
+run-new-requires : tie.Need-run-new-requires
+run-new-requires c κs = search needs
 
 returns : tie.Need-returns
 returns c =
-    let read = c .before .before .before .read-text in
-    record {
-      text = take (read .result .length - 0) (read .last .1 .0);
-      failed = read .result .failed;
-      ran = whole (read .result .length) (read .last .1 .0) (read .ensures .0);
-      sent = c .write-text .ensures;
-    }
+    let s = c .before .before .before in
+    rw (toZ-ofZ w32 (s .args .input) (s .fits .input), toZ-ofZ w32 (s .args .output) (s .fits .output)) at (c .run-new .ensures)
 
 pub run-spec : {M : Type 1} → statement M
 run-spec =
-    tie.close
-    (tie.spec
-    read-text-requires
-    sub-write-text
-    part-write-text-start
-    part-write-text-end
-    write-text-requires
-    returns)
+    tie.close (tie.spec sub-run-new part-run-new-start part-run-new-end run-new-requires returns)

@@ -36,7 +36,7 @@ either f false e g = g
 -- a line end counts one line, a bad one too
 line-counted : (st : State) (s m : List ℕ) → takeLine st s m .st .lines ≡ lineNumber st
 unfolding takeLine countLine editLine
-line-counted st s m = either (λ (h : Held). h .st .lines) (eqb (st .lines) 0) (count (decimalOf s)) (edit (lineOf s)) where
+line-counted st s m = either (λ (h : Held). h .st .lines) (st .begun) (edit (lineOf s)) (count (decimalOf s)) where
   count : (x : Number) → countLine (lineNumber st) m x .st .lines ≡ lineNumber st
   count Not = refl
   count (Value r) = either (λ (h : Held). h .st .lines) (ltb 1024 r) refl refl

@@ -1,6 +1,7 @@
--- THE WHOLE PROGRAM. The text that comes of a run of reads is what the program writes of the bytes that they brought, however they were cut. Assumes nothing.
+-- THE WHOLE PROGRAM. What a run of reads comes to, what is written of it and what is saved of it are those of the bytes that the reads brought, however they were
+-- cut. Assumes nothing.
 use mathlib.Core.Path.{_≡_, refl, sym, ap, _∙_}
-use Prim.Native.Nat.{ℕ, suc, _+_, _^_, _≤_, _<_}
+use Prim.Native.Nat.{ℕ, zero, suc, _+_, _^_, _≤_, _<_}
 use native.Mathlib.Nat.{add-zero, zero-add}
 use native.Mathlib.Omega.{arith}
 use mathlib.Core.Bool.{Bool, true, false, cond, not, _&&_}
@@ -9,14 +10,19 @@ use lib.IntN.{ℤ, pos, negsuc}
 use lib.Signed.{ltZ}
 use lib.ListN.{length, take, length-append}
 use lib.Dec.{ltb, eqb}
-use borrow.Author.Tests.{ltb-true, not-true}
+use borrow.Author.Tests.{ltb-true, not-true, lt-ltb, ne-eqb}
 use Rattle.io.specs.Counts.{clamped}
 use Rattle.page.specs.Page.{failedLine}
-use Rattle.engine.specs.Run.{joined, zeros, runOf}
-use Rattle.engine.specs.Machine.{longest, Room, feedOf, feedAll, outputOf}
+use Rattle.engine.specs.declared.State.{State}
+use Rattle.engine.specs.Run.{joined, Outcome, Start, Sheet, Bad, linesOf, ranOf, pageBy, printed}
+use Rattle.engine.specs.Machine.{Room, room, feedOf, feedAll, finishOf, endedOf, outcomeOf, Begins}
 use Rattle.engine.specs.laws.Law.{program-law, stopped-law}
-use Rattle.runner.specs.Reads.{Read, broughtOf, failedOf, goesOn, Next, Reads, last, go-on, spent, textOf, Ran}
-use Rattle.runner.specs.Program.{inputOf, lineEnds, writtenOf}
+use Rattle.engine.specs.laws.Whole.{taken-law}
+use Rattle.files.specs.Calls.{Read}
+use Rattle.files.specs.Reads.{broughtOf, failedOf, inputOf}
+use Rattle.runner.specs.Reads.{goesOn, Next, Reads, last, go-on, spent}
+use Rattle.runner.specs.Done.{allTaken, Ran, saves, textOf}
+use Rattle.runner.specs.Program.{lineEnds, writtenOf, sheetIn, savedOf}
 use Rattle.runner.specs.laws.Lines.{counted}
 
 -- ---- the reads as parts of the input
@@ -30,11 +36,20 @@ unfolding parts joined inputOf
 joined-parts [] = refl
 joined-parts (r ∷ rs) = ap (λ (s : List ℕ). broughtOf r ++ s) (joined-parts rs)
 
-fed : {n : ℕ} {w v : Room} {rs : List Read} {failed : Bool} → Reads n w rs v failed → v ≡ feedAll w (parts rs)
+fed : {input : ℤ} {n : ℕ} {w v : Room} {rs : List Read} {failed : Bool} → Reads input n w rs v failed → v ≡ feedAll w (parts rs)
 unfolding parts feedAll
 fed spent = refl
 fed (last c l) = l .fed
 fed (go-on {rs = rs} c l rest) = fed rest ∙ ap (λ (w : Room). feedAll w (parts rs)) (l .fed)
+
+-- ---- the four tests of saving
+
+pub all-four : (a b c d : Bool) → (a && (b && (c && d))) ≡ true → (b ≡ true) × (c ≡ true) × (d ≡ true)
+all-four true true true true e = (refl, refl, refl)
+all-four true true true false e = (refl, refl, e)
+all-four true true false d e = (refl, e, cc)
+all-four true false c d e = (e, cc, cc)
+all-four false b c d e = (cc, cc, cc)
 
 -- ---- a run that failed
 
@@ -77,7 +92,7 @@ gone-on {w} {v} {r} l few =
     (good, ap (λ (u : Room). u .st .lines) same ∙ counted (broughtOf r) w (sym (ap (λ (u : Room). u .st .bad) same) ∙ good) few)
 
 -- so it is with all of a run that failed
-failed-lines : {n : ℕ} {w v : Room} {rs : List Read} {failed : Bool} → Reads n w rs v failed → failed ≡ true → w .st .bad ≡ false
+failed-lines : {input : ℤ} {n : ℕ} {w v : Room} {rs : List Read} {failed : Bool} → Reads input n w rs v failed → failed ≡ true → w .st .bad ≡ false
     → w .st .lines + length (inputOf rs) < 2 ^ 64 → (v .st .bad ≡ false) × (v .st .lines ≡ w .st .lines + lineEnds (inputOf rs))
 unfolding inputOf lineEnds feedOf
 failed-lines spent e good few = (good, omega arith)
@@ -95,31 +110,93 @@ failed-lines {w = w} (go-on {r = r} {rs = rs} c l rest) e good few =
 
 -- ---- the law
 
--- for fewer than 2^64 bytes
-pub whole-law : {text : List ℕ} {failed : Bool} (r : Ran text failed) → length (inputOf (r .reads)) < 2 ^ 64
-    → text ≡ writtenOf failed (inputOf (r .reads))
-unfolding writtenOf textOf outputOf zeros
-whole-law {text} {failed} r few = by failed refl (r .written) where
-  by : (t : Bool) → failed ≡ t → text ≡ textOf t (r .end) → text ≡ writtenOf t (inputOf (r .reads))
-  by true e is = is ∙ ap failedLine (failed-lines (r .led) e refl (omega arith) .1 ∙ zero-add (lineEnds (inputOf (r .reads))))
-  by false e is =
-      let all = joined-parts (r .reads) in
-      is ∙ ap outputOf (fed (r .led)) ∙ program-law (parts (r .reads)) (zeros longest) refl (rw all few) ∙ ap runOf all
+-- a run of fewer than 2^64 bytes
+module _ {input : ℤ} (o : Outcome) {st : State} {m : List ℕ} {failed : Bool} (r : Ran input o st m failed) where
+  abbrev pub bytes : List ℕ
+  bytes = inputOf (r .reads)
 
--- and where a line was bad, what is left unread does not matter
-pub unread-law : {text : List ℕ} {failed : Bool} (r : Ran text failed) (rest : List ℕ) → r .end .st .bad ≡ true
-    → length (inputOf (r .reads) ++ rest) < 2 ^ 64 → text ≡ runOf (inputOf (r .reads) ++ rest)
-unfolding textOf outputOf zeros
-unread-law {text} {failed} r rest bad few = by failed refl (r .written) where
+  start-good : (b : Outcome) (w : Room) → Begins b w → (w .st .bad ≡ false) × (w .st .lines ≡ 0)
+  start-good Start w b = (ap (λ (s : State). s .bad) (b .1), ap (λ (s : State). s .lines) (b .1))
+  start-good (Sheet s) w b = (ap (λ (s : State). s .bad) (b .1), ap (λ (s : State). s .lines) (b .1))
+  start-good (Bad k) w b = absurd b
+
+  -- where a read failed no line was bad, and the whole lines are counted
+  pub failed-after : failed ≡ true → length bytes < 2 ^ 64 → (st .bad ≡ false) × (st .lines ≡ lineEnds bytes)
+  unfolding allTaken
+  failed-after e few =
+      let from = start-good o (r .begin) (r .begins) in
+      let at-end = failed-lines (r .led) e (from .0) (omega (arith, from .1)) in
+      let same : room st (r .line) m ≡ r .read = r .end ∙ simp e in (
+        ap (λ (w : Room). w .st .bad) same ∙ at-end .0,
+        ap (λ (w : Room). w .st .lines) same ∙ at-end .1 ∙ omega (arith, from .1),
+      )
+
+  ended-as : failed ≡ false → endedOf st m ≡ outcomeOf (feedAll (r .begin) (parts (r .reads)))
+  unfolding allTaken outcomeOf
+  ended-as e =
+      let same : room st (r .line) m ≡ finishOf (r .read) = r .end ∙ simp e in
+      ap (λ (w : Room). endedOf (w .st) (w .sheet)) (same ∙ ap finishOf (fed (r .led)))
+
+  -- else it came to what the input comes to
+  pub ran-law : failed ≡ false → length bytes < 2 ^ 64 → endedOf st m ≡ ranOf o bytes
+  unfolding outcomeOf
+  ran-law e few =
+      let all = joined-parts (r .reads) in
+      ended-as e ∙ program-law o (r .begin) (r .begins) (parts (r .reads)) (rw all few) ∙ ap (ranOf o) all
+
+  -- by as many lines as the input has, where none was bad
+  pub ran-lines : failed ≡ false → st .bad ≡ false → length bytes < 2 ^ 64 → st .lines ≡ length (linesOf bytes)
+  unfolding allTaken
+  ran-lines e good few =
+      let all = joined-parts (r .reads) in
+      let same : room st (r .line) m ≡ finishOf (feedAll (r .begin) (parts (r .reads))) = r .end ∙ simp e (ap finishOf (fed (r .led))) in
+      ap (λ (w : Room). w .st .lines) same
+      ∙ taken-law o (r .begin) (r .begins) (parts (r .reads)) (rw all few) (ap (λ (w : Room). w .st .bad) (sym same) ∙ good)
+      ∙ ap (λ (s : List ℕ). length (linesOf s)) all
+
+  -- and where a line was bad, what is left unread does not matter
+  pub unread-law : (rest : List ℕ) → r .read .st .bad ≡ true → failed ≡ false → length (bytes ++ rest) < 2 ^ 64 → endedOf st m ≡ ranOf o (bytes ++ rest)
+  unfolding outcomeOf
+  unread-law rest bad e few =
+      let all = joined-parts (r .reads) in
+      let was = ap (λ (u : Room). u .st .bad) (sym (fed (r .led))) ∙ bad in
+      ended-as e ∙ stopped-law o (r .begin) (r .begins) (parts (r .reads)) rest (rw all few) was ∙ ap (λ (s : List ℕ). ranOf o (s ++ rest)) all
+
+  -- the text is that of the input
+  pub whole-law : (rounds : Bool) → length bytes < 2 ^ 64 → textOf rounds failed st m ≡ writtenOf rounds o failed bytes
+  unfolding textOf writtenOf
+  whole-law rounds few = by failed refl where
+    by : (t : Bool) → failed ≡ t → cond t (failedLine (st .lines)) (printed (pageBy rounds) (endedOf st m)) ≡ cond t (failedLine (lineEnds bytes)) (printed (pageBy rounds) (ranOf o bytes))
+    by true e = ap failedLine (failed-after e few .1)
+    by false e = ap (printed (pageBy rounds)) (ran-law e few)
+
+-- what was saved is the sheet that the input comes to, from its end
+pub saved-law : {input : ℤ} (o : Outcome) {st : State} {m : List ℕ} {failed : Bool} (r : Ran input o st m failed) (filed : Bool) → saves filed failed st ≡ true
+    → length (inputOf (r .reads)) < 2 ^ 64 → ranOf o (inputOf (r .reads)) ≡ Sheet (take (st .size) m)
+unfolding saves endedOf
+saved-law o {st} {m} {failed} r filed e few =
+    let all = all-four filed (not failed) (not (st .bad)) (not (eqb (st .lines) 0)) e in
+    sym (ran-law o r (not-true failed (all .0)) few) ∙ simp (not-true (st .bad) (all .1))
+
+-- ---- and it is saved exactly where there is a file, no read failed, no line was bad, and there is one
+
+none-or-some : (n : ℕ) → not (eqb n 0) ≡ ltb 0 n
+none-or-some zero = refl
+none-or-some (suc n) = simp (ne-eqb (suc n) 0 (λ z. omega arith), lt-ltb 0 (suc n) (omega arith))
+
+pub saves-law : {input : ℤ} (o : Outcome) {st : State} {m : List ℕ} {failed : Bool} (r : Ran input o st m failed) (filed : Bool)
+    → length (inputOf (r .reads)) < 2 ^ 64 → saves filed failed st ≡ savedOf filed o failed (inputOf (r .reads))
+unfolding saves savedOf endedOf
+saves-law o {st} {m} {failed} r filed few = ap (λ (t : Bool). filed && t) (by failed refl) where
   input : List ℕ
   input = inputOf (r .reads)
 
-  by : (t : Bool) → failed ≡ t → text ≡ textOf t (r .end) → text ≡ runOf (input ++ rest)
-  by true e is =
-      let good = failed-lines (r .led) e refl (omega (arith, length-append input rest)) .0 in
-      let z : true ≡ false = sym bad ∙ good in
-      cc
-  by false e is =
-      let all = joined-parts (r .reads) in
-      let was = ap (λ (u : Room). u .st .bad) (sym (fed (r .led))) ∙ bad in
-      is ∙ ap outputOf (fed (r .led)) ∙ stopped-law (parts (r .reads)) rest (zeros longest) refl (rw all few) was ∙ ap (λ (s : List ℕ). runOf (s ++ rest)) all
+  good : failed ≡ false → (t : Bool) → st .bad ≡ t → (not t && not (eqb (st .lines) 0)) ≡ (sheetIn (ranOf o input) && ltb 0 (length (linesOf input)))
+  good e true bad = rw (← ran-law o r e few) (simp bad)
+  good e false fine =
+      rw (← ran-law o r e few) (simp fine (none-or-some (st .lines) ∙ ap (λ (n : ℕ). ltb 0 n) (ran-lines o r e fine few)))
+
+  by : (t : Bool) → failed ≡ t
+      → (not t && (not (st .bad) && not (eqb (st .lines) 0))) ≡ (not t && (sheetIn (ranOf o input) && ltb 0 (length (linesOf input))))
+  by true e = refl
+  by false e = good e (st .bad) refl

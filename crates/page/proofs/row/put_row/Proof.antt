@@ -3,7 +3,7 @@ use native.Mathlib.Omega.{arith}
 use borrow.Author.Needs.{needs}
 use borrow.Author.Tests.{eq-eqb, ne-eqb}
 use Rattle.page.specs.Page.{rowLine}
-use Rattle.page.specs.laws.Writing.{put-none}
+use Rattle.text.specs.laws.Writing.{put-none}
 use Rattle.page.proofs.row.put_row.Statement.{statement}
 use Rattle.page.proofs.row.put_row.Tie as tie
 

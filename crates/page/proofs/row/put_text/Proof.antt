@@ -3,33 +3,15 @@ use native.Mathlib.Omega.{arith}
 use lib.ListN.{getD}
 use borrow.Author.Needs.{needs}
 use Rattle.page.specs.Page.{headText, answersText, answerAt, rowText}
-use Rattle.page.specs.laws.Writing.{put-both}
+use Rattle.text.specs.laws.Writing.{put-both}
 use Rattle.page.proofs.row.put_text.Statement.{statement}
 use Rattle.page.proofs.row.put_text.Tie as tie
 
-sub-word : tie.Need-sub-word
-sub-word c = search needs
+pattern-at-requires : tie.Need-pattern-at-requires
+pattern-at-requires c κs = search needs
 
-part-word-start : tie.Need-part-word-start
-part-word-start c = search needs
-
-part-word-end : tie.Need-part-word-end
-part-word-end c = search needs
-
-word-requires : tie.Need-word-requires
-word-requires c κs = search needs
-
-sub-word-2 : tie.Need-sub-word-2
-sub-word-2 c = search needs
-
-part-word-start-2 : tie.Need-part-word-start-2
-part-word-start-2 c = search needs
-
-part-word-end-2 : tie.Need-part-word-end-2
-part-word-end-2 c = search needs
-
-word-requires-2 : tie.Need-word-requires-2
-word-requires-2 c κs = search needs
+pattern-at-requires-2 : tie.Need-pattern-at-requires-2
+pattern-at-requires-2 c κs = search needs
 
 shared-slice-read-put-head : tie.Need-shared-slice-read-put-head
 shared-slice-read-put-head c = search needs
@@ -47,14 +29,14 @@ same-length : tie.Need-same-length
 same-length c = search needs
 
 returns : tie.Need-returns
-unfolding rowText answerAt
+unfolding rowText
 returns c =
-    let a = c .before .before .before .before .before .before .before .before .before .before .before .before .before .before .before .before .args in
+    let a = c .before .before .before .before .before .before .before .before .before .before .before .before .before .before .args in
     let w = a .row .now in
     let p = c .before .before .before .before .before .before .put-head .ensures in
     let q = c .before .before .put-answers .ensures in
-    let first = c .before .before .before .before .before .before .before .before .before .before .before .before .word .ensures in
-    let second = c .before .before .before .before .before .before .before .before .before .before .word2 .ensures in (
+    let first = c .before .before .before .before .before .before .before .before .before .before .before .pattern-at .ensures in
+    let second = c .before .before .before .before .before .before .before .before .before .before .pattern-at2 .ensures in (
       put-both (a .out .now) (a .at) (headText (a .i) (getD w 0 0) (getD w 1 0)) (answersText (answerAt w 32) (answerAt w 40) (a .times)) (omega (arith, q .1)) (p .0)
           (rw (first, second) at (q .0)),
       omega (arith, q .1),
@@ -64,14 +46,8 @@ pub put-text-spec : {M : Type 1} → statement M
 put-text-spec =
     tie.close
     (tie.spec
-    sub-word
-    part-word-start
-    part-word-end
-    word-requires
-    sub-word-2
-    part-word-start-2
-    part-word-end-2
-    word-requires-2
+    pattern-at-requires
+    pattern-at-requires-2
     shared-slice-read-put-head
     shared-slice-read-put-head-2
     put-head-requires

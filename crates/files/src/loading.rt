@@ -1,0 +1,86 @@
+// A file's bytes.
+use crate::reading::call_read;
+ghost use mathlib.Core.Path.{_≡_};
+ghost use Prim.Native.Nat.{_≤_};
+ghost use lib.ListN.{length, take, drop};
+ghost use Rattle.files.specs.Calls.{Called, opens, closes, read, reads};
+ghost use Rattle.files.specs.Load.{most, Brought, Load};
+
+// The largest sheet, and one byte more: so much of a file is read.
+pub const MOST: usize = 49481;
+
+// How many bytes stand at the start of the buffer, and whether the file could be read.
+pub struct Loaded {
+    pub length: usize,
+    pub ok: bool,
+}
+
+// The one call that opens a file for reading.
+fn open(name: &[u8]) -> i32
+    ensures { λ r. ⌜ Called (opens (now (name .entry)) r) ⌝ }
+{
+    os::open_read(name)
+}
+
+// The one call of close.
+pub(crate) fn close(file: i32) -> bool
+    ensures { λ r. ⌜ Called (closes file r) ⌝ }
+{
+    libc::close(file) == 0
+}
+
+// A read into the buffer from a place on, which is also its number.
+fn read_at(file: i32, into: &mut [u8], at: usize) -> isize
+    requires { ⌜ at ≤ length (now into) ⌝ }
+    ensures { λ r. ⌜ Called (reads file at (read r (drop at (now (into .exit))))) ⌝ }
+    ensures { λ r. ⌜ take at (now (into .exit)) ≡ take at (now (into .entry)) ⌝ }
+{
+    call_read(file, at as u64, &mut into[at..])
+}
+
+// Up to the buffer's end, the file's, or a failure.
+fn read_whole(file: i32, into: &mut [u8]) -> Loaded
+    requires { ⌜ length (now into) ≡ most ⌝ }
+    ensures { λ r. ⌜ Brought file (take (r .length) (now (into .exit))) (r .ok) ⌝ }
+    ensures { λ r. ⌜ r .length ≤ length (now (into .exit)) ⌝ }
+{
+    let mut at: usize = 0;
+    while at < into.len() {
+        let got = read_at(file, into, at);
+        if got < 0 {
+            return Loaded {
+                length: 0,
+                ok: false,
+            };
+        }
+        let n = io::count(got, &into[at..]);
+        if n == 0 {
+            return Loaded {
+                length: at,
+                ok: true,
+            };
+        }
+        at += n;
+    }
+    Loaded {
+        length: at,
+        ok: true,
+    }
+}
+
+// The bytes of the file of this name, at the start of the buffer, as far as it goes. A folder opens, and its read fails.
+pub fn load(name: &[u8], into: &mut [u8; MOST]) -> Loaded
+    ensures { λ r. ⌜ Load (now (name .entry)) (take (r .length) (now (into .exit))) (r .ok) ⌝ }
+    ensures { λ r. ⌜ r .length ≤ length (now (into .exit)) ⌝ }
+{
+    let file = open(name);
+    if file < 0 {
+        return Loaded {
+            length: 0,
+            ok: false,
+        };
+    }
+    let loaded = read_whole(file, into);
+    close(file);
+    loaded
+}

@@ -1,3 +1,0 @@
--- Laws of digits and of pieces of text.
-pub mod Digits
-pub mod Writing

@@ -1,0 +1,120 @@
+-- One read before others, all lines taken, and the sheet that may be saved. Assumes nothing.
+use mathlib.Core.Path.{_≡_, refl, sym, ap, _∙_}
+use Prim.Native.Nat.{ℕ, suc, _≤_}
+use native.Mathlib.Omega.{arith}
+use mathlib.Core.Bool.{Bool, true, false, cond, not, _&&_}
+use mathlib.Core.List.{List, [], _∷_}
+use lib.Dec.{eqb}
+use lib.IntN.{ℤ}
+use lib.ListN.{length, take}
+use borrow.Author.Tests.{not-true, eqb-false}
+use Rattle.engine.specs.declared.State.{State}
+use Rattle.ledger.specs.Calls.{isSheet, totalRefusal}
+use Rattle.ledger.specs.laws.Refusals.{sheet-length, sheet-few}
+use Rattle.text.specs.Writing.{Put, Puts}
+use Rattle.text.specs.laws.Writing.{put-length}
+use Rattle.page.specs.Page.{largest}
+use Rattle.engine.specs.Run.{Outcome, Sheet, zeros}
+use Rattle.engine.specs.Machine.{longest, Room, room, fixingOf, finishOf, endedOf, Begins}
+use Rattle.text.specs.laws.Writing.{front}
+use Rattle.files.specs.Calls.{read}
+use Rattle.files.specs.Load.{Brought, whole, unread, Load, unopened, opened}
+use Rattle.runner.specs.Reads.{Next, last, go-on, spent, mostReads, OneRead, SomeReads}
+use Rattle.runner.specs.laws.Whole.{all-four}
+use Rattle.runner.specs.Done.{begunOf, allTaken, Ran, SomeRun, saves, Savable}
+
+-- the answer as it was, after it was passed on
+pub as-answered : {w v : Room} {got answer : ℤ} {buffer : List ℕ} {more failed : Bool} → got ≡ answer → Next w (read got buffer) v more failed
+    → Next w (read answer buffer) v more failed
+as-answered e led = rw (← e) led
+
+module _ {input : ℤ} {n k : ℕ} {w v : Room} {more failed : Bool} (e : n ≡ suc k) (r : OneRead input n w v more failed) where
+  -- reading does not go on after it
+  pub ended : more ≡ false → SomeReads input n w v failed
+  ended stop = record { reads = r .read ∷ []; led = rw e (last (rw e at (r .came)) (rw stop at (r .led))) }
+
+  -- it does, and other reads follow
+  pub one-more : {u : Room} {end : Bool} → more ≡ true → SomeReads input k v u end → SomeReads input n w u end
+  one-more on rest = record { reads = r .read ∷ rest .reads; led = rw e (go-on (rw e at (r .came)) (rw on at (r .led)) (rest .led)) }
+
+-- there may be no more
+pub none-left : (input : ℤ) {w : Room} (k : ℕ) → k ≤ 0 → SomeReads input k w w true
+none-left input k h =
+    let e : k ≡ 0 = omega arith in
+    record { reads = []; led = rw e spent }
+
+-- ---- all lines
+
+module _ {input : ℤ} (o : Outcome) (w : Room) (b : Begins o w) {st : State} {line m : List ℕ} where
+  -- a read failed
+  pub ran-failed : (failed : Bool) → failed ≡ true → SomeReads input mostReads w (room st line m) failed → Ran input o st m failed
+  unfolding allTaken
+  ran-failed failed e r = record { begin = w; begins = b; reads = r .reads; read = room st line m; led = r .led; line = line; end = simp e }
+
+  -- the end of the input ends the last line
+  pub ran-all : (failed : Bool) → failed ≡ false → SomeReads input mostReads w (room st line m) failed → (end : State) (line' m' : List ℕ)
+      → room end line' m' ≡ finishOf (room st line m) → Ran input o end m' false
+  unfolding allTaken
+  ran-all failed e r end line' m' is = record { begin = w; begins = b; reads = r .reads; read = room st line m; led = rw e at (r .led); line = line'; end = is }
+
+-- ---- what may be saved
+
+pub savable : (filed failed : Bool) (st : State) (m : List ℕ) → saves filed failed st ≡ true → SomeRun st m failed → Savable (take (st .size) m)
+unfolding saves endedOf
+savable filed failed st m e run =
+    let all = all-four filed (not failed) (not (st .bad)) (not (eqb (st .lines) 0)) e in
+    record {
+      st = st;
+      m = m;
+      run = rw (not-true failed (all .0)) at run;
+      comes = simp (not-true (st .bad) (all .1));
+      some = eqb-false (st .lines) 0 (not-true (eqb (st .lines) 0) (all .2));
+    }
+
+-- ---- the sheet of a file
+
+is-sheet : (t : Bool) → _≡_ {A = ℕ} (cond (not t) 7 0) 0 → t ≡ true
+is-sheet true e = refl
+is-sheet false e = absurd (omega arith)
+
+no-sheet : (t : Bool) → (_≡_ {A = ℕ} (cond (not t) 7 0) 0 → ⊥) → t ≡ false
+no-sheet true e = absurd (e refl)
+no-sheet false e = refl
+
+module _ (bytes : List ℕ) (q : ℕ) (is : q ≡ totalRefusal bytes) where
+  pub taken-7 : q ≡ 0 → isSheet bytes ≡ true
+  unfolding totalRefusal
+  taken-7 e = is-sheet (isSheet bytes) (sym is ∙ e)
+
+  pub refused-7 : (q ≡ 0 → ⊥) → isSheet bytes ≡ false
+  unfolding totalRefusal
+  refused-7 e = no-sheet (isSheet bytes) (λ z. e (is ∙ z))
+
+-- it stands at the front of the memory
+module _ (bytes old new : List ℕ) (b : ℕ) (sheet : isSheet bytes ≡ true) (size : length old ≡ largest) (p : Puts old new 0 b (length bytes) bytes) where
+  few : length bytes ≤ largest
+  few = omega (arith, sheet-length bytes sheet, sheet-few bytes sheet)
+
+  put : Put old new 0 b bytes
+  put = p .put (omega (arith, few))
+
+  there : take (length bytes) new ≡ bytes
+  there =
+      let e : length bytes ≡ b = omega (arith, put .next) in
+      rw e (front put)
+
+  pub begun-with : begunOf (fixingOf (length bytes)) new ≡ Sheet bytes
+  unfolding begunOf
+  begun-with = ap Sheet there
+
+  pub fix-begins : Begins (Sheet bytes) (room (fixingOf (length bytes)) (zeros longest) new)
+  unfolding zeros
+  fix-begins = (refl, refl, record { size = refl; whole = put-length old 0 bytes put (omega (arith, put .next, few)) ∙ size; fits = few; bytes = there })
+
+-- a file that was not read brings nothing
+pub load-failed : {name bytes : List ℕ} {ok : Bool} → Load name bytes ok → ok ≡ false → Load name [] false
+load-failed (unopened file c bad) e = unopened file c bad
+load-failed {name} (opened file shut c good b d) e = brought b e where
+  brought : {bytes : List ℕ} {ok : Bool} → Brought file bytes ok → ok ≡ false → Load name [] false
+  brought (whole rs f is) e = let z : _≡_ {A = ℕ} 0 1 = cc in absurd (omega arith)
+  brought (unread rs f) e = opened file shut c good (unread rs f) d

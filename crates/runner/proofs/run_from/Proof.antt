@@ -1,0 +1,40 @@
+-- Read, kept, written.
+use mir.Syntax.{w32}
+use mir.ValLaws.{toZ-ofZ}
+use Rattle.engine.specs.Run.{zeros}
+use borrow.Author.Needs.{needs}
+use Rattle.runner.proofs.run_from.Statement.{statement}
+use Rattle.runner.proofs.run_from.Tie as tie
+
+take-all-requires : tie.Need-take-all-requires
+unfolding zeros
+take-all-requires c κs = c .before .before .before .before .pre
+
+keep-requires : tie.Need-keep-requires
+keep-requires c κs = search needs
+
+write-run-requires : tie.Need-write-run-requires
+write-run-requires c κs = search needs
+
+tell-cut-requires : tie.Need-tell-cut-requires
+tell-cut-requires c κs = search needs
+
+returns : tie.Need-returns
+returns c =
+    let s = c .before .before .before .before .before .before .before .before .before .before in
+    let all = c .before .before .before .before .before .take-all in
+    let input = toZ-ofZ w32 (s .args .input) (s .fits .input) in
+    let output = toZ-ofZ w32 (s .args .output) (s .fits .output) in
+    record {
+      st = all .result .st;
+      m = all .last .1 .1 .1 .0;
+      failed = all .result .failed;
+      ran = rw input at (all .ensures);
+      ok = c .before .before .before .keep .result;
+      keeps = c .before .before .before .keep .ensures;
+      last = c .before .write-run .result;
+      wrote = rw output at (c .before .write-run .ensures);
+    }
+
+pub run-from-spec : {M : Type 1} → statement M
+run-from-spec = tie.close (tie.spec take-all-requires keep-requires write-run-requires tell-cut-requires returns)

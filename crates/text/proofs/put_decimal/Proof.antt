@@ -1,0 +1,18 @@
+-- The definition names the base and the places.
+use borrow.Author.Needs.{needs}
+use Rattle.text.specs.Text.{decimal}
+use Rattle.text.proofs.put_decimal.Statement.{statement}
+use Rattle.text.proofs.put_decimal.Tie as tie
+
+put-number-requires : tie.Need-put-number-requires
+put-number-requires c κs = search needs
+
+same-length : tie.Need-same-length
+same-length c = search needs
+
+returns : tie.Need-returns
+unfolding decimal
+returns c = search needs
+
+pub put-decimal-spec : {M : Type 1} → statement M
+put-decimal-spec = tie.close (tie.spec put-number-requires same-length returns)

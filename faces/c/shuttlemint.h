@@ -39,12 +39,13 @@ enum {
     SM_CHARACTERISTIC_ONE = 4,  /* n = 1 */
     SM_NOT_SETTLED = 5,         /* a recipe's stop test is still unmet after 64 rounds: an argument is too large or too small for it */
     SM_NO_NUMBER = 6,           /* the steps end in no number: they overflow, or meet zero times infinity */
-    SM_NOT_A_SHEET = 7,         /* the length or the contents are not those of a sheet, or an edit is asked of one without times; a length of `out` that is not 2 */
+    SM_NOT_A_SHEET = 7,         /* the length or the contents are not those of a sheet, or not of one that the call takes; a length of `out` that is not 2 */
     SM_NO_SUCH_ROW = 8,         /* the row number is not below the row count */
     SM_NO_SUCH_FUNCTION = 9,    /* the function number is above the last */
-    SM_DAMAGED = 10,            /* the row to be replaced, or the counts, are damaged */
+    SM_DAMAGED = 10,            /* the row to be replaced, one to be brought forth or back, or the counts, are damaged */
     SM_TOO_MANY_ROWS = 11,      /* more than 1,024 rows are asked for */
     SM_OUTSIDE_THE_KERNEL = 12, /* a logarithm, sine or cosine outside its range; no call below gives it */
+    SM_NOT_DRIVEN_ONCE = 17,    /* on the way back: a row that is not blank has times other than 1, which a sheet that says 1 can't keep */
     SM_WITHDRAWN_FUNCTION = 22  /* an edit to function 1, which goes out: enter function 3, whose first answer is K(m) too */
 };
 
@@ -68,7 +69,7 @@ enum {
 
    Times is how often the leg of the row was driven, 0 to 65,535; a blank row has 0. The total is the sum of times multiplied by first answer over the finite
    rows. A sheet from before rows kept times says 1 in place of 3 and has zeros in place of times: its legs count once each. It is read by every call that
-   reads, and not edited: sm_edit and the calls made of it give 7.
+   reads, and not edited: sm_edit and the calls made of it give 7. sm_forth makes it a sheet that says 3, and sm_back goes the other way.
 
    A refused call changes no byte. */
 #define SM_MOST_ROWS 1024u
@@ -181,6 +182,17 @@ uint32_t sm_count(const uint8_t *sheet, size_t sheet_length, uint8_t class_numbe
 
 /* How often the row was driven, as its bytes say; for a sheet that says 1, 0 for a blank row and 1 for any other. 0 where the row can't be read. */
 uint16_t sm_row_times(const uint8_t *sheet, size_t sheet_length, uint32_t row);
+
+/* Makes a sheet that says 1 one that says 3, in its own bytes, and back. It writes the first word and each row's times, and carries every other byte over as it
+   stands, the counts and the total too: forth, every row that is not blank was driven once; back, times are zeros. There and back is the sheet, byte for byte,
+   where the library made it. Gives 0; or 7, also for a sheet that says what the other call takes; 10 where a row is damaged or its class counts 0, or where the
+   counts do not add up; and on the way back 17 where a row that is not blank has times other than 1: tried in this order, each over all rows. */
+uint8_t sm_forth(uint8_t *sheet, size_t sheet_length);
+uint8_t sm_back(uint8_t *sheet, size_t sheet_length);
+
+/* The row that such a 10 or 17 is about, of the sheet as it stands: the first; the number of rows where 10 is about the counts. 0 where the call gives 0 or 7. */
+uint32_t sm_forth_row(const uint8_t *sheet, size_t sheet_length);
+uint32_t sm_back_row(const uint8_t *sheet, size_t sheet_length);
 
 /* The pattern of the exact total of the finite rows, times multiplied by first answer, rounded once, ties to even: too large is infinite, zero is +0. Where the bytes are no
    sheet it is +0, and sm_total_refusal gives 7, else 0. */

@@ -347,6 +347,73 @@ static void old_sheets(void)
     CHECK(sm_blank(sheet, length, 3) == 0 && u32_at(sheet) == 3);
 }
 
+/* From a sheet that says 1 to one that says 3 and back, on bytes that can only be read where it is refused. */
+static void forth_and_back(void)
+{
+    const size_t length = SM_SHEET_BYTES(4), counts = length - 296;
+    uint8_t *sheet = blank(4), made[SM_SHEET_BYTES(4)], old[SM_SHEET_BYTES(4)];
+    CHECK(sm_enter_ellipeinc(sheet, length, 0, -1.5, 0) == 0 && sm_enter_ellippi(sheet, length, 1, 1, 1) == 0 && sm_enter_ellipke(sheet, length, 3, 1) == 0);
+    memcpy(made, sheet, length);
+    memcpy(old, sheet, length);
+    old[0] = 1;
+    for (uint32_t i = 0; i < 4; i++)
+        old[32 + SM_ROW_BYTES * i + SM_ROW_TIMES] = 0;
+    only_read(1);
+    CHECK(sm_forth(sheet, length) == SM_NOT_A_SHEET && sm_forth_row(sheet, length) == 0 && sm_back_row(sheet, length) == 0);
+    CHECK(sm_back(sheet, length - 1) == SM_NOT_A_SHEET && sm_back(NULL, 0) == SM_NOT_A_SHEET && sm_forth(NULL, 0) == SM_NOT_A_SHEET);
+    only_read(0);
+    CHECK(sm_back(sheet, length) == 0 && memcmp(sheet, old, length) == 0);
+    only_read(1);
+    CHECK(sm_back(sheet, length) == SM_NOT_A_SHEET && sm_forth_row(sheet, length) == 0);
+    only_read(0);
+    CHECK(sm_forth(sheet, length) == 0 && memcmp(sheet, made, length) == 0 && sm_sum(sheet, length) == -1.5);
+
+    /* Times other than 1; in a blank row any times pass, and are lost. */
+    for (uint32_t i = 0; i < 4; i++)
+        for (int times = 0; times < 3; times++) {
+            const int passes = times == 1 || i == 2;
+            only_read(0);
+            memcpy(sheet, made, length);
+            sheet[32 + SM_ROW_BYTES * i + SM_ROW_TIMES] = (uint8_t)times;
+            only_read(!passes);
+            CHECK(sm_back_row(sheet, length) == (passes ? 0 : i));
+            CHECK(sm_back(sheet, length) == (passes ? 0 : SM_NOT_DRIVEN_ONCE));
+            if (passes)
+                CHECK(memcmp(sheet, old, length) == 0);
+        }
+
+    /* Damage, either way: the first row is named, and goes before the counts and before 17. */
+    for (int back = 0; back < 2; back++) {
+        uint8_t (*const call)(uint8_t *, size_t) = back ? sm_back : sm_forth;
+        uint32_t (*const row_of)(const uint8_t *, size_t) = back ? sm_back_row : sm_forth_row;
+        only_read(0);
+        memcpy(sheet, back ? made : old, length);
+        sheet[32 + SM_ROW_TIMES] = 7;
+        sheet[counts]++; /* one blank row more than there are */
+        only_read(1);
+        CHECK(call(sheet, length) == SM_DAMAGED && row_of(sheet, length) == 4);
+        only_read(0);
+        sheet[32 + 3 * SM_ROW_BYTES + SM_ROW_FUNCTION] = SM_LAST_FUNCTION + 1;
+        only_read(1);
+        CHECK(call(sheet, length) == SM_DAMAGED && row_of(sheet, length) == 3);
+        only_read(0);
+        sheet[counts + 16] = 0; /* no refused row is counted, and row 1 is one */
+        only_read(1);
+        CHECK(call(sheet, length) == SM_DAMAGED && row_of(sheet, length) == 1);
+        only_read(0);
+    }
+
+    /* Bytes 4 to 7 of a row, second answers and the total are carried over, whatever they hold. */
+    memcpy(sheet, old, length);
+    memset(sheet + 32 + 4, 0x55, 4);
+    memset(sheet + 32 + SM_ROW_ANSWERS + 8, 0xff, 8);
+    memset(sheet + counts + 20, 0x66, 276);
+    memcpy(old, sheet, length);
+    CHECK(sm_forth(sheet, length) == 0 && sheet[0] == 3 && sheet[32 + SM_ROW_TIMES] == 1 && sheet[32 + 2 * SM_ROW_BYTES + SM_ROW_TIMES] == 0);
+    CHECK(memcmp(sheet + 32 + 4, old + 32 + 4, SM_ROW_BYTES - 4) == 0 && memcmp(sheet + counts, old + counts, 296) == 0);
+    CHECK(sm_back(sheet, length) == 0 && memcmp(sheet, old, length) == 0);
+}
+
 /* A row of function 1 that was entered before is read, counted, in the total, and replaced or cleared; no new one is entered. */
 static void function_1_goes_out(void)
 {
@@ -410,6 +477,7 @@ int main(void)
     damaged_sheets();
     times_driven();
     old_sheets();
+    forth_and_back();
     function_1_goes_out();
     largest_sheet();
     printf("%u checks, %u failures\n", checks, failures);

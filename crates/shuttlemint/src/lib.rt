@@ -2,6 +2,7 @@
 // No function asks anything of its caller: each refuses instead, by document 01's numbers.
 use sheet::Entry;
 ghost use mathlib.Core.Path.{_≡_};
+ghost use mathlib.Core.Bool.{true, false};
 ghost use lib.Ieee.{toBits, ofBits, binary64};
 ghost use lib.ListN.{length};
 ghost use Rattle.root.specs.Root.{rootOf};
@@ -15,6 +16,8 @@ ghost use Rattle.logarithm.specs.Logarithm.{logarithmOf};
 ghost use Rattle.functions.specs.Functions.{countedOf};
 ghost use Rattle.ledger.specs.Calls.{blankRefusal, blankOf, rowRefusal, classIn, timesOf, totalRefusal, totalOf, countOf};
 ghost use Rattle.sheet.specs.Edit.{editRefusal, editOf};
+ghost use Rattle.conversion.specs.declared.Stop.{Stop};
+ghost use Rattle.conversion.specs.Conversion.{stopOf, convertedOf};
 ghost use Rattle.shuttlemint.specs.Face.{evaluateRefusal, evaluateOut, rowPlaceOf};
 
 #[no_mangle]
@@ -179,6 +182,37 @@ pub extern "C" fn sm_row_times(sheet: &[u8], row: u32) -> u16
     ensures { λ r. ⌜ r ≡ timesOf (now (sheet .entry)) row ⌝ }
 {
     ledger::row_times(sheet, row)
+}
+
+// A sheet that says 1 made one that says 3, in its own bytes: 7, 10, or 0. Refused, it is as it was.
+#[no_mangle]
+pub extern "C" fn sm_forth(sheet: &mut [u8]) -> u8
+    ensures { λ r. ⌜ (r ≡ stopOf true (now (sheet .entry)) .refusal) × (now (sheet .exit) ≡ convertedOf true (now (sheet .entry))) ⌝ }
+{
+    conversion::convert(sheet, true).refusal
+}
+
+// And the way back: 7, 10, 17, or 0.
+#[no_mangle]
+pub extern "C" fn sm_back(sheet: &mut [u8]) -> u8
+    ensures { λ r. ⌜ (r ≡ stopOf false (now (sheet .entry)) .refusal) × (now (sheet .exit) ≡ convertedOf false (now (sheet .entry))) ⌝ }
+{
+    conversion::convert(sheet, false).refusal
+}
+
+// The row that such a refusal of the sheet as it is would be about; the number of rows where 10 is about the counts, and 0 where no row is meant.
+#[no_mangle]
+pub extern "C" fn sm_forth_row(sheet: &[u8]) -> u32
+    ensures { λ r. ⌜ r ≡ stopOf true (now (sheet .entry)) .row ⌝ }
+{
+    conversion::refusal(sheet, true).row
+}
+
+#[no_mangle]
+pub extern "C" fn sm_back_row(sheet: &[u8]) -> u32
+    ensures { λ r. ⌜ r ≡ stopOf false (now (sheet .entry)) .row ⌝ }
+{
+    conversion::refusal(sheet, false).row
 }
 
 // How many rows are blank (0), finite (1), +∞ (2), -∞ (3) or refused (4), by the sheet's own counts; 0 for another class or where `sm_total_refusal` is not 0.

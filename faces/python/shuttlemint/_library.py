@@ -37,6 +37,10 @@ _CALLS = {
     "sm_row_at": (c_size_t, [*_SLICE, c_uint32]),
     "sm_row_refusal": (c_uint8, [*_SLICE, c_uint32]),
     "sm_row_times": (c_uint16, [*_SLICE, c_uint32]),
+    "sm_forth": (c_uint8, _SLICE),
+    "sm_forth_row": (c_uint32, _SLICE),
+    "sm_back": (c_uint8, _SLICE),
+    "sm_back_row": (c_uint32, _SLICE),
     "sm_total": (c_uint64, _SLICE),
     "sm_total_refusal": (c_uint8, _SLICE),
 }

@@ -24,6 +24,7 @@ class Refusal(IntEnum):
     DAMAGED = 10
     TOO_MANY_ROWS = 11
     OUTSIDE_THE_KERNEL = 12
+    NOT_DRIVEN_ONCE = 17
     WITHDRAWN_FUNCTION = 22
 
 
@@ -35,12 +36,13 @@ _WORDS = {
     4: "n is 1, where the integral is infinite; take another characteristic",
     5: "the steps did not settle in 64 rounds; bring the arguments nearer to 1 in size",
     6: "the steps overflow or meet 0·∞; take finite arguments, nearer to 1 in size",
-    7: "these bytes are no sheet, or an old one without times, which is only read; read all 328 + 48·rows bytes again, or enter the legs in a blank sheet",
+    7: "these bytes are no sheet, or not of the kind that the call takes: an old one without times is only read, until it is brought forth; read all 328 + 48·rows bytes again",
     8: "there is no such row; rows are counted from 0 and stay below the sheet's row count",
     9: "no function has this number; 0 is blank, 1 ellipk, 2 ellipe, 3 ellipke, 4 ellippi, 5 ellipeinc, 6 ellipf",
     10: "the row or the counts are damaged; fetch the sheet again, or edit every row afresh in a blank one",
     11: "a sheet has at most 1,024 rows; spread the rows over more sheets",
     12: "a logarithm, sine or cosine was asked outside its range; report the arguments that led to it",
+    17: "a row that is not blank has times other than 1, which an old sheet can not keep; enter its leg with times 1, or leave the sheet as it is",
     22: "ellipk goes out, and no sheet takes a new row of it; enter ellipke, whose first answer is K(m) too",
 }
 _UNKNOWN = "no refusal has this number; the bytes that it was read from are damaged, so fetch them again"

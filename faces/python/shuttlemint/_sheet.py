@@ -129,7 +129,7 @@ class Sheet:
         >>> Sheet.from_bytes(b"no sheet")
         Traceback (most recent call last):
             ...
-        shuttlemint.Refused: Sheet.from_bytes: refusal 7: these bytes are no sheet, or an old one without times, which is only read; read all 328 + 48·rows bytes again, or enter the legs in a blank sheet
+        shuttlemint.Refused: Sheet.from_bytes: refusal 7: these bytes are no sheet, or not of the kind that the call takes: an old one without times is only read, until it is brought forth; read all 328 + 48·rows bytes again
         """
         return cls._of(bytearray(memoryview(data).cast("B")), "Sheet.from_bytes")
 
@@ -208,6 +208,40 @@ class Sheet:
         """Makes the row blank. Refusals 7 for a sheet that does not keep times, 8 and 10."""
         row = within(row, _U32)
         accepted(library.sm_edit(*self._slice(), row, 0, 0, 0, 0, 0), f"Sheet.clear of row {row}")
+
+    def forth(self) -> None:
+        """Turns a sheet from before rows kept times, which says 1, into one that says 3: every row that is not blank has times 1. Refusals: 7 where it says 3
+        already, 10 for a damaged row, which is named, or counts.
+
+        >>> old = Sheet(1)
+        >>> row = old.edit(0, "ellipeinc", 1.5, 0.0)
+        >>> old.back()
+        >>> old.keeps_times
+        False
+        >>> old.forth()
+        >>> old.row(0).times
+        1
+        """
+        self._turn("forth", library.sm_forth, library.sm_forth_row)
+
+    def back(self) -> None:
+        """The way back, for a depot that has not updated. Refusals: 7 where it says 1 already, 10 as `forth`'s, 17 for a row that was driven other than once, which
+        is named.
+
+        >>> sheet = Sheet(1)
+        >>> row = sheet.edit(0, "ellipeinc", 1.5, 0.0, times=2)
+        >>> sheet.back()
+        Traceback (most recent call last):
+            ...
+        shuttlemint.Refused: Sheet.back of row 0: refusal 17: a row that is not blank has times other than 1, which an old sheet can not keep; enter its leg with times 1, or leave the sheet as it is
+        """
+        self._turn("back", library.sm_back, library.sm_back_row)
+
+    def _turn(self, way: str, call: Any, row_of: Any) -> None:
+        row = row_of(*self._slice())
+        refusal = call(*self._slice())
+        about = "" if refusal in (0, 7) else " of the counts" if row == len(self) else f" of row {row}"
+        accepted(refusal, f"Sheet.{way}{about}")
 
     def row(self, row: int) -> Row:
         """A row. Refusal 8 for no such row; rows are not counted from the end.

@@ -202,11 +202,39 @@ class Refusals(unittest.TestCase):
             for call in ((old.edit, 0, "ellipke", 0.5), (old.edit, 9, 200), (old.edit_patterns, 0, 1), (old.clear, 0), (old.clear, 9)):
                 self.assertEqual(refusal_of(*call), Refusal.NOT_A_SHEET)
             self.assertEqual(old.to_bytes(), data)
-        with self.assertRaisesRegex(Refused, "Sheet.edit of row 0: refusal 7: .* an old one without times, which is only read"):
+        with self.assertRaisesRegex(Refused, "Sheet.edit of row 0: refusal 7: .* an old one without times is only read"):
             old.edit(0, "ellipke", 0.5)
         for says in set(range(256)) - {1, 3}:
             data[0] = says
             self.assertEqual(refusal_of(Sheet.from_bytes, data), Refusal.NOT_A_SHEET)
+
+    def test_forth_and_back(self):
+        sheet = Sheet(3)
+        sheet.edit(0, "ellipeinc", -1.5, 0.0)
+        sheet.edit(1, "ellippi", 1.0, 1.0)
+        new = sheet.to_bytes()
+        old = bytearray(new)
+        old[0] = 1
+        old[34] = old[82] = 0
+        sheet.back()
+        self.assertEqual((sheet.to_bytes(), sheet.keeps_times, sheet.total()), (bytes(old), False, -1.5))
+        self.assertEqual(refusal_of(sheet.back), Refusal.NOT_A_SHEET)
+        sheet.forth()
+        self.assertEqual((sheet.to_bytes(), sheet.keeps_times), (new, True))
+        self.assertEqual(refusal_of(sheet.forth), Refusal.NOT_A_SHEET)
+        sheet.edit(1, "ellippi", 1.0, 1.0, times=0)
+        before = sheet.to_bytes()
+        with self.assertRaisesRegex(Refused, "Sheet.back of row 1: refusal 17: "):
+            sheet.back()
+        self.assertEqual(sheet.to_bytes(), before)
+        for place, about in ((32, "of row 0"), (32 + 3 * 48 + 16, "of row 1"), (32 + 3 * 48, "of the counts")):
+            damaged = bytearray(before)
+            damaged[place] = 9 if place == 32 else damaged[place] ^ (1 if place % 48 == 0 else 2)
+            damaged[32 + 48 + 2] = 1
+            if about == "of row 1":
+                damaged[place] = 0
+            with self.assertRaisesRegex(Refused, f"Sheet.back {about}: refusal 10: "):
+                Sheet.from_bytes(damaged).back()
 
     def test_a_row_of_function_1_stands(self):
         """It was entered before the function went out: F(π/2, 0) has K(0)'s bits, and K reads one argument."""

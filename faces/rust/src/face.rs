@@ -10,6 +10,10 @@ mod c {
         pub fn sm_row_refusal(sheet: *const u8, len: usize, row: u32) -> u8;
         pub fn sm_row_class(sheet: *const u8, len: usize, row: u32) -> usize;
         pub fn sm_row_times(sheet: *const u8, len: usize, row: u32) -> u16;
+        pub fn sm_forth(sheet: *mut u8, len: usize) -> u8;
+        pub fn sm_back(sheet: *mut u8, len: usize) -> u8;
+        pub fn sm_forth_row(sheet: *const u8, len: usize) -> u32;
+        pub fn sm_back_row(sheet: *const u8, len: usize) -> u32;
         pub fn sm_count(sheet: *const u8, len: usize, class: u8) -> u32;
         pub fn sm_total(sheet: *const u8, len: usize) -> u64;
         pub fn sm_total_refusal(sheet: *const u8, len: usize) -> u8;
@@ -65,4 +69,16 @@ pub fn row_class(sheet: &[u8], row: u32) -> usize {
 /// How often the row was driven; 0 where it can't be read.
 pub fn row_times(sheet: &[u8], row: u32) -> u16 {
     unsafe { c::sm_row_times(sheet.as_ptr(), sheet.len(), row) }
+}
+
+/// Forth, or back.
+pub fn convert(sheet: &mut [u8], forth: bool) -> u8 {
+    let call = if forth { c::sm_forth } else { c::sm_back };
+    unsafe { call(sheet.as_mut_ptr(), sheet.len()) }
+}
+
+/// The row that a refusal of it is about; the number of rows where that is the counts.
+pub fn convert_row(sheet: &[u8], forth: bool) -> u32 {
+    let call = if forth { c::sm_forth_row } else { c::sm_back_row };
+    unsafe { call(sheet.as_ptr(), sheet.len()) }
 }

@@ -61,7 +61,7 @@ mod sorts;
 pub use integrals::Integral;
 pub use legendre::{ellipe, ellipeinc, ellipf, ellipk, ellipke, ellippi};
 pub use refusal::{Refusal, StrErr};
-pub use sheet::{Class, Row, Sheet};
+pub use sheet::{Class, Row, Sheet, Stop};
 pub use sorts::{Amplitude, Characteristic, Parameter};
 
 /// The function of this number at its arguments' bit patterns, as a sheet's row has them: its two answers' bit patterns.

@@ -29,18 +29,21 @@ impl Refusal {
     pub const NOT_SETTLED: Refusal = Refusal::numbered(5);
     /// 6: the steps end in no number.
     pub const NO_NUMBER: Refusal = Refusal::numbered(6);
-    /// 7: the length or the contents are not those of a sheet, or an edit is asked of one that does not [keep times](crate::Sheet::keeps_times).
+    /// 7: the length or the contents are not those of a sheet, or not of one that the call takes: an edit of one that does not
+    /// [keep times](crate::Sheet::keeps_times), or the wrong way [forth](crate::Sheet::forth) or [back](crate::Sheet::back).
     pub const NOT_A_SHEET: Refusal = Refusal::numbered(7);
     /// 8: the row number is not below the row count.
     pub const NO_SUCH_ROW: Refusal = Refusal::numbered(8);
     /// 9: the function number is above the last.
     pub const NO_SUCH_FUNCTION: Refusal = Refusal::numbered(9);
-    /// 10: the row to be replaced, or the counts, are damaged.
+    /// 10: the row to be replaced, or one to be brought forth or back, or the counts, are damaged.
     pub const DAMAGED: Refusal = Refusal::numbered(10);
     /// 11: more than 1,024 rows are asked for.
     pub const TOO_MANY_ROWS: Refusal = Refusal::numbered(11);
     /// 12: a logarithm, sine or cosine outside the range where it is worked out. No call of this crate gives it.
     pub const OUTSIDE_THE_KERNEL: Refusal = Refusal::numbered(12);
+    /// 17: on the way [back](crate::Sheet::back), a row that is not blank has times other than 1.
+    pub const NOT_DRIVEN_ONCE: Refusal = Refusal::numbered(17);
     /// 22: an edit to function 1, `ellipk`, which goes out: rows of it stand, and no new one is entered.
     pub const WITHDRAWN_FUNCTION: Refusal = Refusal::numbered(22);
 
@@ -73,12 +76,13 @@ impl Refusal {
             4 => "n is 1, where the integral is infinite; take another characteristic",
             5 => "the steps did not settle in 64 rounds; bring the arguments nearer to 1 in size",
             6 => "the steps overflow or meet 0·∞; take finite arguments, nearer to 1 in size",
-            7 => "these bytes are no sheet, or an old one without times, which is only read; read all 328 + 48·rows bytes again, or enter the legs in a blank sheet",
+            7 => "these bytes are no sheet, or not of the kind that the call takes: an old one without times is only read, until it is brought forth; read all 328 + 48·rows bytes again",
             8 => "there is no such row; rows are counted from 0 and stay below the sheet's row count",
             9 => "no function has this number; 0 is blank, 1 ellipk, 2 ellipe, 3 ellipke, 4 ellippi, 5 ellipeinc, 6 ellipf",
             10 => "the row or the counts are damaged; fetch the sheet again, or edit every row afresh in a blank one",
             11 => "a sheet has at most 1,024 rows; spread the rows over more sheets",
             12 => "a logarithm, sine or cosine was asked outside its range; report the arguments that led to it",
+            17 => "a row that is not blank has times other than 1, which an old sheet can not keep; enter its leg with times 1, or leave the sheet as it is",
             22 => "ellipk goes out, and no sheet takes a new row of it; enter ellipke, whose first answer is K(m) too",
             _ => "no refusal has this number; the bytes that it was read from are damaged, so fetch them again",
         }

@@ -32,7 +32,7 @@ fn part<const N: usize>(bytes: &[u8], at: usize) -> [u8; N] {
 /// ```
 ///
 /// Each row keeps how often its leg was driven ([`enter_times`](Sheet::enter_times), [`Row::times`]). A sheet from before rows did is read like any other,
-/// each leg once, and is not edited ([`keeps_times`](Sheet::keeps_times)).
+/// each leg once, and is not edited ([`keeps_times`](Sheet::keeps_times)) before it was brought [`forth`](Sheet::forth).
 #[derive(Clone, Debug, PartialEq, Eq)]
 pub struct Sheet<B = Vec<u8>> {
     bytes: B,
@@ -196,6 +196,40 @@ impl<B: AsRef<[u8]> + AsMut<[u8]>> Sheet<B> {
         accepted(face::edit(self.bytes.as_mut(), row, function, [a, b, c], times))
     }
 
+    /// Makes a sheet that does not [keep times](Sheet::keeps_times) one that does, in its own bytes: every row that is not blank was driven once. Counts and total
+    /// are carried over. Refusals, each changing no byte: 7 where it keeps times already, 10 where a row is damaged, or the counts.
+    ///
+    /// ```
+    /// # use shuttlemint::{Integral, Refusal, Sheet};
+    /// let mut sheet = Sheet::blank(2)?;
+    /// sheet.enter(1, Integral::ellipeinc(1.5, 0.0))?;
+    /// let new = sheet.clone();
+    /// sheet.back()?;
+    /// assert!(!sheet.keeps_times());
+    /// sheet.forth()?;
+    /// assert_eq!(sheet, new);
+    ///
+    /// sheet.enter_times(1, Integral::ellipeinc(1.5, 0.0), 2)?;
+    /// let stop = sheet.back().unwrap_err();
+    /// assert_eq!((stop.refusal(), stop.row()), (Refusal::NOT_DRIVEN_ONCE, Some(1)));
+    /// # Ok::<(), Refusal>(())
+    /// ```
+    pub fn forth(&mut self) -> Result<(), Stop> {
+        self.convert(true)
+    }
+
+    /// The way back from [`forth`](Sheet::forth): times go, so that each row that is not blank must have been driven once. Refusals, tried in this order, each
+    /// changing no byte: 7 for a sheet that does not keep times, 10 where a row is damaged, or the counts, 17 for times other than 1.
+    pub fn back(&mut self) -> Result<(), Stop> {
+        self.convert(false)
+    }
+
+    fn convert(&mut self, forth: bool) -> Result<(), Stop> {
+        let Some(refusal) = Refusal::from_number(face::convert(self.bytes.as_mut(), forth)) else { return Ok(()) };
+        let row = Some(face::convert_row(self.as_bytes(), forth)).filter(|&row| refusal != Refusal::NOT_A_SHEET && row < self.rows());
+        Err(Stop { refusal, row })
+    }
+
     /// Makes a row blank: an edit to function 0.
     ///
     /// ```
@@ -208,6 +242,42 @@ impl<B: AsRef<[u8]> + AsMut<[u8]>> Sheet<B> {
     /// ```
     pub fn clear(&mut self, row: u32) -> Result<(), Refusal> {
         self.edit(row, 0, 0, 0, 0, 0)
+    }
+}
+
+/// Why a sheet was not brought [forth](Sheet::forth) or [back](Sheet::back), and the row that this is about. `?` takes it to a [`Refusal`].
+#[derive(Clone, Copy, Debug, PartialEq, Eq, Hash)]
+pub struct Stop {
+    refusal: Refusal,
+    row: Option<u32>,
+}
+
+impl Stop {
+    /// 7, 10 or 17.
+    pub fn refusal(self) -> Refusal {
+        self.refusal
+    }
+
+    /// The first row that is damaged or was not driven once; none where 10 is about the counts, and for 7.
+    pub fn row(self) -> Option<u32> {
+        self.row
+    }
+}
+
+impl fmt::Display for Stop {
+    fn fmt(&self, f: &mut fmt::Formatter) -> fmt::Result {
+        if let Some(row) = self.row {
+            write!(f, "row {row}: ")?;
+        }
+        write!(f, "{}", self.refusal)
+    }
+}
+
+impl std::error::Error for Stop {}
+
+impl From<Stop> for Refusal {
+    fn from(stop: Stop) -> Refusal {
+        stop.refusal
     }
 }
 

@@ -92,6 +92,28 @@ impl Both {
         self.same_number("Sheet::edit", numbers)
     }
 
+    /// The way forth or back: its refusal, and the row that is named.
+    pub fn convert(&mut self, forth: bool) -> (u8, u32) {
+        let stops = [self.lent.convert(forth), self.model.convert(forth)];
+        self.seen[stops[0].0 as usize] += 1;
+        self.same("convert", stops)
+    }
+
+    /// The same by way of the safe face; of bytes that are no sheet it is 7 before.
+    pub fn safe_convert(&mut self, forth: bool) -> (u8, Option<u32>) {
+        let rows = self.model.rows();
+        let converted = Sheet::from_bytes(self.lent.bytes_mut()).map(|mut sheet| if forth { sheet.forth() } else { sheet.back() });
+        let library = match converted {
+            Err(refusal) => (refusal.number(), None),
+            Ok(Ok(())) => (0, None),
+            Ok(Err(stop)) => (stop.refusal().number(), stop.row()),
+        };
+        let (number, row) = self.model.convert(forth);
+        let model = (number, Some(row).filter(|&row| number != 7 && number != 0 && Some(row as usize) < rows));
+        self.seen[number as usize] += 1;
+        self.same("Sheet::forth or back", [library, model])
+    }
+
     pub fn read_row(&mut self, row: u32) {
         let places = [self.lent.row_at(row), self.model.row_at(row)];
         self.same("row_at", places);

@@ -17,14 +17,16 @@ fn bytes(random: &mut Random) -> Both {
         3..=5 => Both::new((0..length).map(|_| random.next() as u8).collect(), at_the_end),
         6 => Both::new(model::worked_out(&vec![vec![0; 48]; 1025]), at_the_end),
         7..=8 => {
-            // Any rows, worked out afresh: an old sheet's but for its first word.
+            // Any rows, worked out afresh: an old sheet's, each driven once, but for its first word.
+            let says = random.one_of(&[model::OLD, model::OLD, model::NEW]);
             let row = |random: &mut Random| {
                 let (function, arguments, times) = (random.below(LAST as u64 + 1) as u8, random.patterns(), random.times());
+                let times = if says == model::OLD { 1 } else { times };
                 let arguments = model::read_by(function, arguments);
                 model::new_row(function, arguments, lent::answers(function, arguments), times)
             };
             let mut bytes = model::worked_out(&(0..rows.min(40)).map(|_| row(random)).collect::<Vec<_>>());
-            bytes[0] = random.one_of(&[model::OLD, model::OLD, model::NEW]);
+            bytes[0] = says;
             Both::new(bytes, at_the_end)
         }
         _ => {
@@ -100,6 +102,9 @@ fn step(random: &mut Random, both: &mut Both, wounds: &mut Wounds, whole: bool) 
         }
         28 if wounds.is_empty() && both.model.edit_refusal(row, 0) == 0 => both.stand(row, arguments[0], times),
         27 if !whole => damage(random, both, wounds),
+        29 => _ = both.convert(true),
+        30 if random.below(4) == 0 => _ = both.convert(false),
+        31 if random.below(4) == 0 => _ = both.safe_convert(random.below(4) > 0),
         // The last wound first, so that the sheet before it comes back.
         _ => {
             if let Some((place, byte)) = wounds.pop() {
@@ -129,11 +134,12 @@ fn run(seed: u64, least: u64) {
         }
     }
     println!(
-        "seed {seed}: {calls} calls on {sheets} sheets, no difference; answers 0 to 11 came {:?} times, 22 {} times",
+        "seed {seed}: {calls} calls on {sheets} sheets, no difference; answers 0 to 11 came {:?} times, 17 {} times, 22 {} times",
         &seen[..12],
+        seen[17],
         seen[22]
     );
-    let given = |number: usize| number < 12 || number == 22;
+    let given = |number: usize| number < 12 || [17, 22].contains(&number);
     assert!((0..256).all(|number| seen[number] > 0 || !given(number)), "some refusal was never met");
     assert!((0..256).all(|number| seen[number] == 0 || given(number)), "a number that no call gives");
 }

@@ -18,6 +18,10 @@ mod c {
         pub fn sm_row_at(sheet: *const u8, len: usize, row: u32) -> usize;
         pub fn sm_row_refusal(sheet: *const u8, len: usize, row: u32) -> u8;
         pub fn sm_row_times(sheet: *const u8, len: usize, row: u32) -> u16;
+        pub fn sm_forth(sheet: *mut u8, len: usize) -> u8;
+        pub fn sm_back(sheet: *mut u8, len: usize) -> u8;
+        pub fn sm_forth_row(sheet: *const u8, len: usize) -> u32;
+        pub fn sm_back_row(sheet: *const u8, len: usize) -> u32;
         pub fn sm_total(sheet: *const u8, len: usize) -> u64;
         pub fn sm_total_refusal(sheet: *const u8, len: usize) -> u8;
 
@@ -62,7 +66,7 @@ pub fn answers(function: u8, arguments: [u64; 3]) -> (u8, u64, u64) {
 }
 
 /// What every call over bytes answers for no bytes at all, the pointer null.
-pub fn of_nothing(row: u32, rows: u32) -> (u8, u8, usize, u8, u16, u64, u8, u8) {
+pub fn of_nothing(row: u32, rows: u32) -> (u8, u8, usize, u8, u16, u64, u8, u8, u8, u8, u32, u32) {
     let (no_bytes, no_numbers) = (std::ptr::null_mut(), std::ptr::null_mut());
     // SAFETY: of no bytes none is lent.
     unsafe {
@@ -75,6 +79,10 @@ pub fn of_nothing(row: u32, rows: u32) -> (u8, u8, usize, u8, u16, u64, u8, u8) 
             c::sm_total(no_bytes, 0),
             c::sm_total_refusal(no_bytes, 0),
             c::sm_evaluate(1, 0, 0, 0, no_numbers, 0),
+            c::sm_forth(no_bytes, 0),
+            c::sm_back(no_bytes, 0),
+            c::sm_forth_row(no_bytes, 0),
+            c::sm_back_row(no_bytes, 0),
         )
     }
 }
@@ -158,6 +166,19 @@ impl Lent {
 
     pub fn row_times(&self, row: u32) -> u16 {
         unsafe { c::sm_row_times(self.start(), self.length, row) }
+    }
+
+    /// What refuses the way forth or back, and the row that is named before it.
+    pub fn convert(&mut self, forth: bool) -> (u8, u32) {
+        unsafe {
+            if forth {
+                let row = c::sm_forth_row(self.start(), self.length);
+                (c::sm_forth(self.start(), self.length), row)
+            } else {
+                let row = c::sm_back_row(self.start(), self.length);
+                (c::sm_back(self.start(), self.length), row)
+            }
+        }
     }
 
     pub fn total(&self) -> u64 {

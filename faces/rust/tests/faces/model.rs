@@ -182,6 +182,11 @@ fn first(row: &[u8]) -> u64 {
     u64::from_le_bytes(row[32..40].try_into().unwrap())
 }
 
+/// The row tests of refusal 10.
+fn sound(row: &[u8]) -> bool {
+    row[0] <= LAST && row[1] <= 6 && !is_nan(first(row))
+}
+
 /// The times that the bytes hold.
 fn times(row: &[u8]) -> u16 {
     u16::from_le_bytes([row[2], row[3]])
@@ -275,9 +280,8 @@ impl Model {
         }
         let old = self.row(row as usize);
         let counts = self.counts();
-        let sound = old[0] <= LAST && old[1] <= 6 && !is_nan(first(old));
         let counted = counts.iter().map(|&count| count as u64).sum::<u64>() == rows as u64;
-        if !sound || !counted || class(old).is_none_or(|class| counts[class] == 0) {
+        if !sound(old) || !counted || class(old).is_none_or(|class| counts[class] == 0) {
             return 10;
         }
         0
@@ -292,6 +296,36 @@ impl Model {
         let arguments = read_by(function, arguments);
         self.put(row as usize, &new_row(function, arguments, answers(function, arguments), driven));
         0
+    }
+
+    /// What refuses the way forth or back, and the row that it is about; the number of rows where that is the counts.
+    fn stop(&self, forth: bool) -> (u8, u32) {
+        let Some(rows) = self.rows().filter(|_| self.keeps_times() != forth) else { return (7, 0) };
+        let counts = self.counts();
+        let first_row = |found: &dyn Fn(&[u8]) -> bool| (0..rows).find(|&row| found(self.row(row)));
+        if let Some(row) = first_row(&|row| !sound(row) || class(row).is_none_or(|class| counts[class] == 0)) {
+            return (10, row as u32);
+        }
+        if counts.iter().map(|&count| count as u64).sum::<u64>() != rows as u64 {
+            return (10, rows as u32);
+        }
+        match first_row(&|row| !forth && row[0] != 0 && times(row) != 1) {
+            Some(row) => (17, row as u32),
+            None => (0, 0),
+        }
+    }
+
+    pub fn convert(&mut self, forth: bool) -> (u8, u32) {
+        let stop = self.stop(forth);
+        if stop.0 == 0 {
+            self.bytes[0] = if forth { NEW } else { OLD };
+            for row in 0..self.rows().expect("a sheet still") {
+                let at = 32 + 48 * row;
+                let driven = (forth && self.bytes[at] != 0) as u16;
+                self.bytes[at + 2..at + 4].copy_from_slice(&driven.to_le_bytes());
+            }
+        }
+        stop
     }
 
     /// This row in place of a sound one, and the totals with it.

@@ -65,6 +65,9 @@ fn try_all(both: &mut Both, rows: u32) {
     both.read(u32::MAX);
     both.blank(1025);
     both.blank(u32::MAX);
+    for forth in [true, false, true] {
+        both.convert(forth);
+    }
 }
 
 #[test]
@@ -84,8 +87,8 @@ fn sizes() {
     }
     // Well made but for being too large.
     try_all(&mut Both::new(model::worked_out(&vec![vec![0; 48]; 1025]), true), 1025);
-    assert_eq!(lent::of_nothing(0, 0), (7, 7, 0, 7, 0, 0, 7, 7));
-    assert_eq!(lent::of_nothing(u32::MAX, 1025), (11, 7, 0, 7, 0, 0, 7, 7));
+    assert_eq!(lent::of_nothing(0, 0), (7, 7, 0, 7, 0, 0, 7, 7, 7, 7, 0, 0));
+    assert_eq!(lent::of_nothing(u32::MAX, 1025), (11, 7, 0, 7, 0, 0, 7, 7, 7, 7, 0, 0));
 }
 
 #[test]
@@ -444,6 +447,50 @@ fn sheets_that_say_1() {
         new.poke(0, says);
         try_all(&mut Both::new(new.lent.bytes().to_vec(), true), 5);
     }
+}
+
+/// Every byte of a sheet that says 1 and of one that says 3 as it may be, both ways: refusal, row and bytes are the model's.
+#[test]
+fn forth_and_back() {
+    let mut new = a_row_of_each_class();
+    let rows: Vec<Vec<u8>> = (0..5).map(|i| [&new.model.row(i)[..2], &[(i > 0) as u8, 0], &new.model.row(i)[4..]].concat()).collect();
+    let made = model::worked_out(&rows);
+    new.set(&made);
+    assert_eq!(new.convert(true), (7, 0));
+    assert_eq!(new.convert(false), (0, 0));
+    let old = new.lent.bytes().to_vec();
+    assert_eq!(new.convert(false), (7, 0));
+    assert_eq!(new.convert(true), (0, 0));
+    assert!(new.lent.bytes() == made);
+    for sheet in [&old, &made] {
+        for place in 0..sheet.len() {
+            for byte in [0, 1, 2, 3, 7, 0x7f, 0xff] {
+                for forth in [true, false] {
+                    new.set(sheet);
+                    new.poke(place, byte);
+                    new.convert(forth);
+                    new.safe_convert(forth);
+                }
+            }
+        }
+    }
+    // 17 goes behind 10 of any row, and behind the counts.
+    let mut both = Both::new(made.clone(), true);
+    both.poke(34 + 48, 2);
+    assert_eq!(both.convert(false), (17, 1));
+    both.poke(32 + 48 * 5, 2); // one blank row more than there are
+    assert_eq!(both.convert(false), (10, 5));
+    both.poke(32 + 48 * 3, LAST + 1);
+    assert_eq!(both.convert(false), (10, 3));
+    assert_eq!(both.safe_convert(false), (10, Some(3)));
+    both.poke(32 + 48 * 3, rows[3][0]);
+    assert_eq!(both.safe_convert(false), (10, None));
+    assert_eq!(Sheet::from_bytes(both.lent.bytes_mut()).unwrap().forth().unwrap_err().to_string(), Refusal::NOT_A_SHEET.to_string());
+    both.set(&made);
+    both.poke(34 + 48, 0);
+    let stop = Sheet::from_bytes(both.lent.bytes_mut()).unwrap().back().unwrap_err();
+    assert!(stop.to_string().starts_with("row 1: refusal 17: "));
+    assert_eq!(Refusal::from(stop), Refusal::NOT_DRIVEN_ONCE);
 }
 
 #[test]

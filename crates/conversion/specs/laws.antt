@@ -1,0 +1,3 @@
+-- Laws of the way forth and back.
+pub mod Rows
+pub mod Accepted

@@ -1,0 +1,3 @@
+-- Why the two ways are right.
+pub mod Sheets
+pub mod Made

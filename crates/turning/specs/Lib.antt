@@ -1,0 +1,2 @@
+-- What comes of a run of legforth or legback.
+pub mod Turning

@@ -1,0 +1,2 @@
+-- Laws of pieces put one after the other.
+pub mod Placing

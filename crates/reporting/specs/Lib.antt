@@ -1,0 +1,3 @@
+-- What comes of a run of legmonth, then the laws of it.
+pub mod Reporting
+pub mod laws

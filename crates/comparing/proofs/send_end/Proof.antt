@@ -1,0 +1,31 @@
+-- What was put at the start of the buffer is what is sent.
+use mathlib.Core.Path.{subst}
+use mathlib.Core.List.{List}
+use Prim.Native.Nat.{ℕ}
+use Rattle.text.specs.laws.Writing.{front-part}
+use Rattle.files.specs.Output.{Wrote}
+use borrow.Author.Needs.{needs}
+use Rattle.comparing.proofs.send_end.Statement.{statement}
+use Rattle.comparing.proofs.send_end.Tie as tie
+
+put-end-requires : tie.Need-put-end-requires
+put-end-requires c κs = search needs
+
+sub-put : tie.Need-sub-put
+sub-put c = search needs
+
+part-put-start : tie.Need-part-put-start
+part-put-start c = search needs
+
+part-put-end : tie.Need-part-put-end
+part-put-end c = search needs
+
+put-requires : tie.Need-put-requires
+put-requires c κs = search needs
+
+returns : tie.Need-returns
+returns c = subst (λ (t : List ℕ). Wrote (c .before .before .before .before .before .before .before .args .out) t (c .put .result)) (front-part (c .before .before .before .put-end .ensures .0)) (c .put .ensures)
+
+pub send-end-spec : {M : Type 1} → statement M
+send-end-spec =
+    tie.close (tie.spec put-end-requires sub-put part-put-start part-put-end put-requires returns)

@@ -1,0 +1,3 @@
+-- Arguments that several proofs share.
+pub mod Pieces
+pub mod Classes

@@ -1,0 +1,2 @@
+-- Laws of what legdiff prints.
+pub mod Lines

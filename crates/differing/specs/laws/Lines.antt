@@ -1,9 +1,11 @@
--- "No row line appears exactly when all rows agree." Assumes nothing.
+-- "No row line appears exactly when all rows agree", and the count is the number of row lines. Assumes nothing.
 use mathlib.Core.Path.{_≡_, refl, ap, _∙_, sym}
 use mathlib.Core.Bool.{Bool, true, false, cond}
 use mathlib.Core.List.{List, [], _∷_, _++_}
 use Prim.Native.Nat.{ℕ, zero, suc, _+_, _<_}
 use native.Mathlib.Omega.{arith}
+use borrow.Author.Tests.{ne-eqb}
+use lib.Dec.{eqb}
 use lib.ListN.{length, length-append}
 use Rattle.ledger.specs.Calls.{readOf}
 use Rattle.difference.specs.Difference.{agree, changes, changeOf}
@@ -59,3 +61,24 @@ agree-no-lines s t n h = none-printed s t n (all-agree s t n h)
 
 pub no-lines-agree : (s t : List ℕ) (n : ℕ) → linesOf s t n ≡ [] → (i : ℕ) → i < n → readOf s i ≡ readOf t i
 no-lines-agree s t n h = none-differ s t n (none-changed s t n h)
+
+-- ---- how many
+
+-- how many of the first n rows have a line
+unfoldable pub lined : List ℕ → List ℕ → ℕ → ℕ
+lined s t zero = 0
+lined s t (suc n) = lined s t n + cond (eqb (length (lineOf s t n)) 0) 0 1
+
+-- one row: a line where it differs, and none where it does not
+one-line : (s t : List ℕ) (i : ℕ) → _≡_ {A = ℕ} (cond (eqb (length (lineOf s t i)) 0) 0 1) (cond (agree s t i) 0 1)
+unfolding lineOf
+one-line s t i = by (agree s t i) where
+  by : (b : Bool) → _≡_ {A = ℕ} (cond (eqb (length (cond b [] (rowText s t i))) 0) 0 1) (cond b 0 1)
+  by true = refl
+  by false = rw (ne-eqb (length (rowText s t i)) 0 (λ z. let h = some-text s t i in omega arith)) refl
+
+-- what is printed behind `rows` is that number
+pub as-many : (s t : List ℕ) (n : ℕ) → lined s t n ≡ changes s t n
+unfolding lined changes
+as-many s t zero = refl
+as-many s t (suc n) = λ i. as-many s t n i + one-line s t n i

@@ -12,7 +12,8 @@ use Rattle.files.specs.declared.sending.Output.{Output}
 use Rattle.files.specs.Output.{Wrote}
 use Rattle.turning.specs.Turning.{stopLine, rowsLine, refused, unwritten, written, Answered}
 
-none-left : (bytes : List ℕ) (forth : Bool) (stop : Stop) → stop ≡ stopOf forth bytes → stop .refusal ≡ 0 → stopOf forth bytes .refusal ≡ 0
+-- nothing refused the sheet
+pub none-left : (bytes : List ℕ) (forth : Bool) (stop : Stop) → stop ≡ stopOf forth bytes → stop .refusal ≡ 0 → stopOf forth bytes .refusal ≡ 0
 none-left bytes forth stop s zero = ap (λ (t : Stop). t .refusal) (sym s) ∙ zero
 
 module _ (bytes to : List ℕ) (forth : Bool) (out end : Output) (stop : Stop) (rows : ℕ) (s : stop ≡ stopOf forth bytes) (r : rows ≡ rowsIn bytes) where

@@ -34,6 +34,13 @@ stopLine s r =
 unfoldable pub rowsLine : ℕ → List ℕ
 rowsLine r = numberLine (ascii "rows ") r
 
+-- bytes that may be written: a sheet was accepted, and this is what it is converted to
+pub record Converted (bytes : List ℕ) : Type 0 where
+  pub sheet : List ℕ
+  pub forth : Bool
+  pub accepted : stopOf forth sheet .refusal ≡ 0
+  pub is : bytes ≡ convertedOf forth sheet
+
 -- what comes of bytes that were read, and is said: they are refused, and no file is written; or the file named `to` is put in place with the converted sheet, or can't be
 pub data Settled (bytes to : List ℕ) (forth : Bool) (text : List ℕ) : Type 0 where
   refused : (stopOf forth bytes .refusal ≡ 0 → ⊥) → text ≡ stopLine (stopOf forth bytes) (rowsIn bytes) → Settled bytes to forth text

@@ -5,8 +5,9 @@ use files::Output;
 use files::WORD;
 ghost use mathlib.Core.Path.{_≡_};
 ghost use Rattle.ledger.specs.Calls.{rowsIn};
+ghost use Rattle.files.specs.Save.{Save};
 ghost use Rattle.files.specs.Output.{Wrote};
-ghost use Rattle.turning.specs.Turning.{numberLine, stopLine, rowsLine, Answered, Done, Ran};
+ghost use Rattle.turning.specs.Turning.{numberLine, stopLine, Converted, Answered, Done, Ran};
 
 fn put_number(out: Output, words: &[u8], n: u64) -> Output
     ensures { λ r. ⌜ Wrote out (numberLine (now (words .entry)) n) r ⌝ }
@@ -33,6 +34,14 @@ fn put_stop(out: Output, stop: Stop, rows: u64) -> Output
     put_number(out, b"refused 10 row ", stop.row as u64)
 }
 
+// The one call that writes a file: with a sheet that was accepted, and converted. So where a sheet is refused no file is written.
+fn save_sheet(to: &[u8], sheet: &[u8]) -> bool
+    requires { ⌜ Converted (now sheet) ⌝ }
+    ensures { λ r. ⌜ Save (now (to .entry)) (now (sheet .entry)) r ⌝ }
+{
+    files::save(to, sheet)
+}
+
 // The sheet that was read, converted where it lies and put into the file of this name; or why not.
 fn settle(program: &[u8], out: Output, sheet: &mut [u8], to: &[u8], forth: bool) -> Output
     ensures { λ r. ⌜ Answered (now (sheet .entry)) (now (to .entry)) forth out r ⌝ }
@@ -46,7 +55,7 @@ fn settle(program: &[u8], out: Output, sheet: &mut [u8], to: &[u8], forth: bool)
         );
         return put_stop(out, stop, rows);
     }
-    if !files::save(to, sheet) {
+    if !save_sheet(to, sheet) {
         files::tell(
             program,
             b": the second file is as it was; make room on its disk, or name a file in a folder that may be written\n",

@@ -5,7 +5,7 @@ use Rattle.files.specs.declared.sending.Output.{Output}
 use Rattle.files.specs.Output.{Wrote}
 use Rattle.laws.specs.Ascii.{ascii}
 use Rattle.turning.specs.Turning.{numberLine, rowsLine}
-use Rattle.turning.proofs.Settling.{settled-refused, settled-unwritten, settled-written}
+use Rattle.turning.proofs.Settling.{none-left, settled-refused, settled-unwritten, settled-written}
 use borrow.Author.Needs.{needs}
 use Rattle.turning.proofs.settle.Statement.{statement}
 use Rattle.turning.proofs.settle.Tie as tie
@@ -39,8 +39,11 @@ returns c =
     let r = c .before .before .before .before .before .before .before .before .before .rows-in in
     settled-refused (a .sheet .now) (a .to .now) (a .forth) (a .out) (c .put-stop .result) (s .result) (r .result) (s .ensures .0) (r .ensures) (c .before .before .before .if1 .taken) (c .put-stop .ensures)
 
-save-requires : tie.Need-save-requires
-save-requires c κs = search needs
+save-sheet-requires : tie.Need-save-sheet-requires
+save-sheet-requires c κs =
+    let a = c .before .before .before .before .before .before .before .before .before .before .before .before .args in
+    let s = c .before .before .before .before .before .convert in
+    record { sheet = a .sheet .now; forth = a .forth; accepted = none-left (a .sheet .now) (a .forth) (s .result) (s .ensures .0) (c .before .if1 .left); is = s .ensures .1 }
 
 slice-aggregate-tell-2 : tie.Need-slice-aggregate-tell-2
 slice-aggregate-tell-2 c = search needs
@@ -59,7 +62,7 @@ returns-2 c =
     let a = c .before .before .before .before .before .before .before .before .before .before .before .before .before .before .before .before .before .args in
     let s = c .before .before .before .before .before .before .before .before .before .before .convert in
     let r = c .before .before .before .before .before .before .before .before .before .before .before .before .rows-in in
-    let w = c .before .before .before .before .save in
+    let w = c .before .before .before .before .save-sheet in
     settled-unwritten (a .sheet .now) (a .to .now) (a .forth) (a .out) (c .cannot-write .result) (s .result) (r .result) (s .ensures .0) (r .ensures) (c .before .before .before .before .before .before .if1 .left) _ (s .ensures .1) (w .result) (w .ensures)
     (not-true _ (c .before .before .before .if2 .taken)) (c .cannot-write .ensures)
 
@@ -77,7 +80,7 @@ returns-3 c =
     let a = c .before .before .before .before .before .before .before .before .before .before .before .before .before .before .before .before .args in
     let s = c .before .before .before .before .before .before .before .before .before .convert in
     let r = c .before .before .before .before .before .before .before .before .before .before .before .rows-in in
-    let w = c .before .before .before .save in
+    let w = c .before .before .before .save-sheet in
     settled-written (a .sheet .now) (a .to .now) (a .forth) (a .out) (c .put-number .result) (s .result) (r .result) (s .ensures .0) (r .ensures) (c .before .before .before .before .before .if1 .left) _ (s .ensures .1) (w .result) (w .ensures)
     (not-false _ (c .before .before .if2 .left)) (rowed (r .result) (c .put-number .ensures))
 
@@ -92,7 +95,7 @@ settle-spec =
     put-stop-requires
     same-length
     returns
-    save-requires
+    save-sheet-requires
     slice-aggregate-tell-2
     tell-requires-2
     cannot-write-requires

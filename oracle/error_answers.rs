@@ -1,10 +1,12 @@
 //! The answers that oracle/errors.py measures: `oracle/run error_answers < POINTS`.
 //! A line of POINTS has a function's number, two arguments and the modulus k with k² = m, or `-` where there is none; numbers as 16 hex digits. For each the patterns of the first and the
 //! second answer are printed, `-` for none, of: the proved library; ellip's files on the hardware (oracle/ellip); Boost.Math as it comes; Boost.Math in double alone.
-//! ellip's RF is in none of the given files: RF here is docs/STEPS.md's, on the hardware.
+//! ellip's RF is in none of the given files: RF here is docs/STEPS.md's, on the hardware (rf.rs).
 //! c++: error_boost
 mod library;
+mod rf;
 
+use rf::rf;
 use std::io::{BufRead, Write};
 
 #[link(name = "error_boost", kind = "static")]
@@ -27,23 +29,6 @@ const NONE: Answers = [None, None];
 
 fn one(x: f64) -> Answers {
     [Some(x), None]
-}
-
-fn rf(x: f64, y: f64, z: f64) -> f64 {
-    let (mut x, mut y, mut z) = (x, y, z);
-    let mut a = 4.0 * ((x / 4.0 + y / 4.0 + z / 4.0) / 3.0);
-    let mut far = (a - x).abs().max((a - y).abs()).max((a - z).abs());
-    for _ in 0..64 {
-        if far < a / 512.0 {
-            break;
-        }
-        let l = x.sqrt() * y.sqrt() + y.sqrt() * z.sqrt() + z.sqrt() * x.sqrt();
-        (x, y, z, a, far) = ((x + l) / 4.0, (y + l) / 4.0, (z + l) / 4.0, (a + l) / 4.0, far / 4.0);
-    }
-    let (x, y) = ((a - x) / a, (a - y) / a);
-    let z = -(x + y);
-    let (e2, e3) = (x * y - z * z, x * y * z);
-    (1.0 - e2 / 10.0 + e3 / 14.0 + e2 * e2 / 24.0 - 3.0 * e2 * e3 / 44.0) / a.sqrt()
 }
 
 fn proved(function: u8, a: f64, b: f64) -> Answers {

@@ -1,16 +1,12 @@
 //! ellipf through the static library against the f64 reading of ellipf.rs: `oracle/run first_kind_compare [MILLIONS]`, 2 by default.
 //! Exact paths (refusals 1 and 3 for |φ| ≥ π/2, m = 0, |φ| > 2^52) must agree in bits, but that a NaN of the Rust is refusal 6 here.
-//! In 01's box, which has no lower end for φ, neither may fail, and the largest relative difference is shown. RF there is this project's recipe.
-//! twin: rf
+//! In 01's box, which has no lower end for φ, neither may fail, and the largest relative difference is shown. RF there is this project's recipe, on the hardware (rf.rs).
 mod library;
 mod patterns;
+mod rf;
 
 use patterns::{shown, Random};
-
-fn rf(x: f64, y: f64, z: f64) -> f64 {
-    let r = twin::rf::rf(x, y, z);
-    if r.met { r.value } else { f64::NAN }
-}
+use rf::rf;
 
 fn rust(phi: f64, m: f64) -> (u8, u64, u64) {
     match ellip::ellipf(phi, m, rf) {

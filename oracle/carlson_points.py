@@ -1,8 +1,9 @@
+#!/usr/bin/env python3
 """Points for Carlson's RF, RC, RD and RJ with references from mpmath, and how far docs/STEPS.md is from them.
 
-    python3 oracle/carlson_points.py
+    oracle/carlson_points.py [OUT [POINTS]]
 
-writes crates/vectors/data/rf.txt, rc.txt, rd.txt and rj.txt, 1,000 lines each: the arguments' patterns and the pattern of the reference (40 digits, rounded once to
+writes rf.txt, rc.txt, rd.txt and rj.txt in OUT (crates/vectors/data), POINTS lines each (1,000): the arguments' patterns and the pattern of the reference (40 digits, rounded once to
 f64), 16 hex digits each. An answer passes if the recipe's stop test is met and the value is within 2^-48 of the reference, relative.
 Half of the points are arguments of sizes from 2^-100 to 2^100, one of them 0 where that is allowed, some equal; the other half are those that ellippi, ellipeinc and
 ellipf ask for at points of 01's box (RC's are what RJ asks for). RJ's p is at most 2^100 times the largest other argument: a round only quarters p against the others,
@@ -13,6 +14,7 @@ The seed is fixed: the files are the same each time.
 import math
 import os
 import random
+import sys
 
 import mpmath
 from mpmath import mpf
@@ -20,8 +22,8 @@ from mpmath import mpf
 import incomplete_points as steps
 
 SEED = 20261115
-POINTS = 1000
-DATA = os.path.join(os.path.dirname(os.path.abspath(__file__)), "..", "crates", "vectors", "data")
+POINTS = int(sys.argv[2]) if len(sys.argv) > 2 else 1000
+DATA = sys.argv[1] if len(sys.argv) > 1 else os.path.join(os.path.dirname(os.path.abspath(__file__)), "..", "crates", "vectors", "data")
 
 # the steps, the reference, the integral's factor and how often each argument's root divides, and how many of the first arguments one 0 is drawn among
 RECIPES = {

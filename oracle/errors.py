@@ -1,7 +1,7 @@
 #!/usr/bin/env python3
 """The error of each function over its domain, in units of the last place, for docs/pictures/errors.svg.
 
-    oracle/errors.py [POINTS]      writes docs/pictures/errors.csv; POINTS a function, 6,000 by default
+    oracle/errors.py [POINTS [CSV]]      POINTS a function, 6,000 by default; writes docs/pictures/errors.csv, or the file that is named
 
 Needs mpmath, rustc, g++, Boost.Math (Debian: libboost-math-dev) and the static library (`rt staticlib shuttlemint`). Each answer is held against mpmath's
 at 40 digits or more; the unit is 2^(e-52) where 2^e is the power of two at or below the reference's size. The answers are those of oracle/error_answers.rs.
@@ -25,7 +25,7 @@ import incomplete_points as reference
 from incomplete_points import pattern
 
 HERE = os.path.dirname(os.path.abspath(__file__))
-CSV = os.path.join(HERE, "..", "docs", "pictures", "errors.csv")
+CSV = sys.argv[2] if len(sys.argv) > 2 else os.path.join(HERE, "..", "docs", "pictures", "errors.csv")
 SEED = 20261115
 CONTESTANTS = ("proved", "ellip", "boost", "boost double")
 COMPLETE, BOX = (-6.0, 6.0), (-3.0, 2.0)  # of -log10(1 - m): m from -999,999 to 0.999999, and from -999 to 0.99
@@ -85,10 +85,14 @@ FUNCTIONS = {
 }
 
 
-def units(answer, exact):
-    """The error in units of the last place of the exact number."""
+def unit(exact):
+    """A unit of the last place of the exact number."""
     _, exponent = mpmath.frexp(exact)  # the size is at least 2^(exponent - 1)
-    return float(abs(mpf(answer) - exact) / mpf(2) ** (int(exponent) - 53))
+    return mpf(2) ** (int(exponent) - 53)
+
+
+def units(answer, exact):
+    return float(abs(mpf(answer) - exact) / unit(exact))
 
 
 def answers(number, points):
@@ -131,7 +135,10 @@ def main():
                 met = [e[j][c] for e in errors if e[j][c] is not None]
                 if met:
                     rows.append([name, j + 1, "all", "", "", contestant, len(met), f"{statistics.median(met):.3g}", f"{max(met):.4g}"])
-                    print(f"{name} {j + 1} {contestant}: {len(met)} points, middle {statistics.median(met):.3f}, largest {max(met):.2f}", flush=True)
+                    worst = next(i for i, e in enumerate(errors) if e[j][c] == max(met))
+                    relative = mpmath.log(max(met) * unit(exact[worst][j]) / abs(exact[worst][j]), 2)
+                    where = ", ".join(repr(x) for x in points[worst][0])
+                    print(f"{name} {j + 1} {contestant}: {len(met)} points, middle {statistics.median(met):.3f}, largest {max(met):.3f} at ({where}), 2^{float(relative):.2f} relative", flush=True)
     with open(CSV, "w", newline="") as file:
         out = csv.writer(file, lineterminator="\n")
         out.writerow(["function", "answer", "over", "from", "to", "contestant", "points", "middle", "largest"])

@@ -1,11 +1,12 @@
+#!/usr/bin/env python3
 """Points of 01's comparison box for ellippi, ellipeinc and ellipf, with references from mpmath, and how far docs/STEPS.md is from them.
 
-    python3 oracle/incomplete_points.py OUT
+    oracle/incomplete_points.py OUT [POINTS] [--store]
 
-writes OUT/ellippi.txt, OUT/ellipeinc.txt and OUT/ellipf.txt, 5,000 lines each: two argument patterns and the pattern of the reference (40 digits, rounded once to
-f64), 16 hex digits each, in the order of the function's arguments. The first 1,000 lines of each also go to crates/vectors/data, the lists that are replayed:
+writes OUT/ellippi.txt, OUT/ellipeinc.txt and OUT/ellipf.txt, POINTS lines each (5,000): two argument patterns and the pattern of the reference (40 digits, rounded once to
+f64), 16 hex digits each, in the order of the function's arguments. With --store the first 1,000 lines of each also go to crates/vectors/data, the lists that are replayed:
 an answer passes if it is within 2^-36 of the reference, relative; a zero passes for a zero of either sign.
-The steps are run here in f64, with the C library's sine, cosine and root, and with K and E rounded from mpmath (ellipf's K by its own mean).
+The steps are run here in f64, with the C library's sine, cosine and root, and with K and E rounded from mpmath (ellipf's K by its own mean). How many rounds each recipe makes is shown too.
 Boost's answers at the same points: oracle/boost_points.cpp.
 """
 import math
@@ -20,6 +21,7 @@ from mpmath import mpf
 SEED = 20250511
 POINTS = 5000
 STORED = 1000
+RECIPES = ("rf", "rc", "rd", "rj")
 PI, HALF_PI, EPS = math.pi, math.pi / 2, 2.0**-52
 INF, NAN = math.inf, math.nan
 
@@ -363,10 +365,26 @@ def any_amplitude(rng):
     return math.copysign(2.0 ** rng.uniform(-1070, -30), rng.random() - 0.5) if rng.random() < 0.1 else amplitude(rng)
 
 
-def points(name, known, draw, steps, reference, out):
+def counted(made):
+    """From here on every call of a recipe leaves its rounds in `made`."""
+
+    def counting(name, recipe):
+        def call(*args):
+            outcome = recipe(*args)
+            made.setdefault(name, []).append(outcome[2])
+            return outcome
+
+        return call
+
+    for name in RECIPES:
+        globals()[name] = counting(name, globals()[name])
+
+
+def points(name, known, draw, steps, reference, out, count, store, made):
     rng = random.Random(f"{SEED} {name}")
+    made.clear()
     lines, worst, where, refusals = [], mpf(0), None, 0
-    while len(lines) < POINTS:
+    while len(lines) < count:
         args = known.pop() if known else draw(rng)
         exact = reference(*args)
         got = steps(*args)
@@ -379,24 +397,30 @@ def points(name, known, draw, steps, reference, out):
         lines.append(" ".join(f"{pattern(v):016x}" for v in (*args, float(exact))))
     with open(os.path.join(out, name + ".txt"), "w") as f:
         f.write("\n".join(lines) + "\n")
-    with open(os.path.join(os.path.dirname(os.path.abspath(__file__)), "..", "crates", "vectors", "data", name + ".txt"), "w") as f:
-        f.write("\n".join(lines[:STORED]) + "\n")
+    if store:
+        with open(os.path.join(os.path.dirname(os.path.abspath(__file__)), "..", "crates", "vectors", "data", name + ".txt"), "w") as f:
+            f.write("\n".join(lines[:STORED]) + "\n")
     print(f"{name}: {len(lines)} points, {refusals} refused, largest relative difference 2^{float(mpmath.log(worst, 2)):.2f} at {where}")
+    for recipe in sorted(made):
+        print(f"{name}: {recipe} makes {sum(made[recipe]) / len(made[recipe]):.1f} rounds on average, {max(made[recipe])} at most")
 
 
 def main():
     mpmath.mp.dps = 60
-    out = sys.argv[1]
+    words = [word for word in sys.argv[1:] if word != "--store"]
+    made = {}
+    counted(made)
+    how = words[0], int(words[1]) if len(words) > 1 else POINTS, "--store" in sys.argv, made
 
     def pi_point(rng):
         m = parameter(rng)
         return characteristic(rng, m), m
 
-    points("ellippi", [(0.5, 0.5)], pi_point, ellippi, ellippi_reference, out)
-    points("ellipeinc", [(PI / 4, 0.5)], lambda rng: (amplitude(rng), parameter(rng)), ellipeinc, ellipeinc_reference, out)
+    points("ellippi", [(0.5, 0.5)], pi_point, ellippi, ellippi_reference, *how)
+    points("ellipeinc", [(PI / 4, 0.5)], lambda rng: (amplitude(rng), parameter(rng)), ellipeinc, ellipeinc_reference, *how)
     # the stretch where c = 1/sin² is finite and three times it is not, and both its ends
     narrow = [(2.0**-512 * (1 + k / 16), m) for k in range(16) for m in (-1000.0, 0.99)]
-    points("ellipf", narrow + [(PI / 4, 0.5)], lambda rng: (any_amplitude(rng), parameter(rng)), ellipf, ellipf_reference, out)
+    points("ellipf", narrow + [(PI / 4, 0.5)], lambda rng: (any_amplitude(rng), parameter(rng)), ellipf, ellipf_reference, *how)
 
 
 if __name__ == "__main__":

@@ -1,11 +1,13 @@
+#!/usr/bin/env python3
 """The steps of sine, cosine and logarithm (docs/STEPS.md, part kernel) over whole numbers, and how far they lie from the exact sums of
 document 01, module 2. Run it to see the largest part of each proved bound that was met.
 
-    python3 oracle/kernel_model.py
+    oracle/kernel_model.py [MANY]      MANY random angles of each kind, half as many numbers (8,000)
 """
 import math
 import random
 import struct
+import sys
 from fractions import Fraction
 
 # ---- the steps
@@ -143,8 +145,8 @@ def largest(part, points):
 
 
 if __name__ == "__main__":
-    rng = random.Random(20)
-    xs, ys = angles(rng, 8000), positives(rng, 4000)
+    rng, many = random.Random(20), int(sys.argv[1]) if len(sys.argv) > 1 else 8000
+    xs, ys = angles(rng, many), positives(rng, many // 2)
     print(len(xs), "angles,", len(ys), "positive numbers")
     print("sine      |x| 2^-52      ", largest(sine_part, xs))
     print("cosine    2^-52          ", largest(cosine_part, xs))

@@ -43,12 +43,13 @@ def main():
             with open(os.path.join(os.fsencode(folder), name), 'wb') as file: file.write(world.files[name])
         off = False
         for count in (1, 10, 100, MOST):
-            words, runs = names[:count], []
+            words, runs, same = names[:count], [], True
+            wanted = files_model.legmonth(words, world, files_model.Input()).printed
             for _ in range(passes):
                 with tempfile.TemporaryFile() as out:
                     runs.append(measured(command + words, folder, out.fileno()))
                     out.seek(0)
-                    same = out.read() == files_model.legmonth(words, world, files_model.Input()).printed
+                    same = same and out.read() == wanted
             off = off or not same or not all(run[2] for run in runs)
             print('%d sheets of %d rows, %.1f MB: %.1f ms, of which %.1f ms of the processor; at most %d kB of memory; the report is %s' %
                   (count, ROWS, sum(len(world.files[name]) for name in words) / 1e6, 1e3 * min(run[0] for run in runs), 1e3 * min(run[1] for run in runs), memory(command + words, folder), "the model's" if same else 'ANOTHER'))

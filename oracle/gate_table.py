@@ -4,7 +4,9 @@ oracle/gate_table.py LOG --write puts it into docs/MEASURED.md, between its two 
 A crate's line has the seconds of its check, its wrong programs and the seconds that they took, and its lines of code, definitions, laws and proofs. Seconds are the gate's own, one check more at a time than there are processors."""
 import os, re, sys
 
-root = os.path.join(os.path.dirname(os.path.abspath(__file__)), '..')
+import measured
+
+root = measured.ROOT
 MARKS = ('<!-- gate table: oracle/gate_table.py -->', '<!-- gate table ends -->')
 
 
@@ -63,14 +65,8 @@ def main():
         text = table(f)
     if len(sys.argv) == 2:
         print(text)
-        return
-    page = os.path.join(root, 'docs', 'MEASURED.md')
-    with open(page, encoding='utf-8') as f:
-        old = f.read()
-    before, rest = old.split(MARKS[0])
-    after = rest.split(MARKS[1])[1]
-    with open(page, 'w', encoding='utf-8') as f:
-        f.write('%s%s\n\n%s\n\n%s%s' % (before, MARKS[0], text, MARKS[1], after))
+    else:
+        measured.write(MARKS, text)
 
 
 main()

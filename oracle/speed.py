@@ -4,7 +4,9 @@
 --write puts the tables into docs/MEASURED.md, between its two marks. Wanted first: rt staticlib shuttlemint; rt check legsheet; Boost (README). A quiet machine: it takes some five minutes."""
 import datetime, os, re, subprocess, sys
 
-root = os.path.join(os.path.dirname(os.path.abspath(__file__)), '..')
+import measured
+
+root = measured.ROOT
 MARKS = ('<!-- speed: oracle/speed.py -->', '<!-- speed ends -->')
 
 
@@ -69,8 +71,7 @@ def program():
 
 def main():
     words = sys.argv[1:]
-    with open('/proc/cpuinfo') as f: processor = next(l.split(':')[1].strip() for l in f if l.startswith('model name'))
-    page = [f'Made by `oracle/speed.py` on {datetime.date.today()}, all on one machine ({processor}, {os.cpu_count()} processors), one benchmark after the other; not edited by hand. Nanoseconds a call, the best pass of each contestant, all taking turns in one run.', '']
+    page = [f'Made by `oracle/speed.py` on {datetime.date.today()}, all on one machine ({measured.machine()}), one benchmark after the other; not edited by hand. Nanoseconds a call, the best pass of each contestant, all taking turns in one run.', '']
     for name in ['floor_bench', 'remainder_bench', 'kernel_bench', 'complete_bench', 'incomplete_bench', 'sheet_bench']:
         page += tables(name)
         print(name, file=sys.stderr)
@@ -78,13 +79,8 @@ def main():
     if '--before' in words: page += turns(os.path.abspath(words[words.index('--before') + 1]), os.path.join(root, 'target/staticlib/libshuttlemint.a'))
     page += program()
     text = '\n'.join(page)
-    if '--write' not in words:
-        print(text)
-        return
-    path = os.path.join(root, 'docs', 'MEASURED.md')
-    with open(path, encoding='utf-8') as f: all_of_it = f.read()
-    a, b = all_of_it.index(MARKS[0]) + len(MARKS[0]), all_of_it.index(MARKS[1])
-    with open(path, 'w', encoding='utf-8') as f: f.write(all_of_it[:a] + '\n\n' + text + '\n' + all_of_it[b:])
+    if '--write' in words: measured.write(MARKS, text)
+    else: print(text)
 
 
 main()

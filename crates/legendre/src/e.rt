@@ -9,6 +9,8 @@ use pieces::centre;
 use pieces::e_piece;
 use pieces::piece;
 ghost use mathlib.Core.Path.{_≡_};
+ghost use Rattle.laws.specs.Arithmetic.{_⊖_, _⊘_, 1·0};
+ghost use Rattle.root.specs.Root.{rootOf};
 ghost use Rattle.legendre.specs.Ellipe.{startOf, nextOf, lastSumsOf, lnOf, nearOneOf, eFromOf, eMeanOf, eBelowOneOf, eNegativeOf};
 
 // The two means after some rounds, the sum e so far with what its rounding lost, and the next term's power of two.
@@ -104,12 +106,16 @@ pub(crate) fn e_below_one(m: f64) -> f64
     e_mean(root::root(1.0 - m))
 }
 
-pub(crate) fn e_negative(c: f64, m1: f64) -> f64
-    ensures { λ r. ⌜ r ≡ eNegativeOf 32 c m1 ⌝ }
+pub(crate) fn e_negative(m: f64) -> f64
+    ensures { λ r. ⌜ r ≡ eNegativeOf 32 (rootOf (1·0 ⊖ m)) (m ⊘ (m ⊖ 1·0)) ⌝ }
 {
+    let m1 = m / (m - 1.0);
     if m1 >= 0.9 {
         // m1 may round to 1: 1/c keeps the complementary modulus.
+        let c = root::root(1.0 - m);
         return c * e_mean(1.0 / c);
     }
-    c * e_below_one(m1)
+    // The root last: its digits are a long chain that the polynomial need not wait for.
+    let e = e_below_one(m1);
+    root::root(1.0 - m) * e
 }

@@ -10,6 +10,8 @@ use pieces::e_piece;
 use pieces::k_piece;
 use pieces::piece;
 ghost use mathlib.Core.Path.{_≡_};
+ghost use Rattle.laws.specs.Arithmetic.{_⊖_, _⊘_, 1·0};
+ghost use Rattle.root.specs.Root.{rootOf};
 ghost use Rattle.legendre.specs.Ellipke.{bothMeanOf, bothBelowOneOf, scaledOf, bothNegativeOf, pairOf};
 
 pub(crate) struct Both {
@@ -54,14 +56,18 @@ fn scaled(c: f64, b: Both) -> Both
     }
 }
 
-pub(crate) fn both_negative(c: f64, m1: f64) -> Both
-    ensures { λ r. ⌜ r ≡ bothNegativeOf c m1 ⌝ }
+pub(crate) fn both_negative(m: f64) -> Both
+    ensures { λ r. ⌜ r ≡ bothNegativeOf (rootOf (1·0 ⊖ m)) (m ⊘ (m ⊖ 1·0)) ⌝ }
 {
+    let m1 = m / (m - 1.0);
     if m1 >= 0.9 {
         // 1 - m1 = 1/c²: starting from 1/c avoids the cancellation.
+        let c = root::root(1.0 - m);
         return scaled(c, both_mean(1.0 / c));
     }
-    scaled(c, both_below_one(m1))
+    // The root last: its digits are a long chain that the polynomials need not wait for.
+    let b = both_below_one(m1);
+    scaled(root::root(1.0 - m), b)
 }
 
 pub(crate) fn pair(b: Both) -> Answer

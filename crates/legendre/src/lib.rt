@@ -79,7 +79,7 @@ pub fn ellipe(m: Parameter) -> Answer
         return Answer::Infinite(false);
     }
     if m < 0.0 {
-        return Answer::One(e_negative(root::root(1.0 - m), m / (m - 1.0)));
+        return Answer::One(e_negative(m));
     }
     Answer::One(e_below_one(m))
 }
@@ -102,7 +102,7 @@ pub fn ellipke(m: Parameter) -> Answer
         return Answer::Pair(0.0, f64::from_bits(INFINITY));
     }
     if m < 0.0 {
-        return pair(both_negative(root::root(1.0 - m), m / (m - 1.0)));
+        return pair(both_negative(m));
     }
     pair(both_below_one(m))
 }

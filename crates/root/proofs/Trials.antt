@@ -20,6 +20,15 @@ use Rattle.root.specs.laws.Meaning.{IsRoot, square-lt, two-four, whole-r
 use Rattle.root.specs.Steps.{Tried, Aligned}
 
 -- ---- one step
+-- half of 2 ^ 64 - 2s, worked out below 2 ^ 63 and moved back
+pub below-half : (down below r s : ℕ) → below < 2 ^ 64 → r < 2 ^ 64 → (below + 2 ^ 63) % 2 ^ 64 ≡ down → (r + 2 ^ 62) % 2 ^ 64 ≡ below / 2 ^ 1 → s ≤ 2 ^ 62 → down + 2 * s ≡ 2 ^ 64 → r + s ≡ 2 ^ 64
+below-half down below r s a b e f l h = go (lt-or-le below (2 ^ 63)) (lt-or-le r (2 ^ 64 - 2 ^ 62))
+  where
+    go : (below < 2 ^ 63) ⊎ (2 ^ 63 ≤ below) → (r < 2 ^ 64 - 2 ^ 62) ⊎ (2 ^ 64 - 2 ^ 62 ≤ r) → r + s ≡ 2 ^ 64
+    go (inl x) (inr y) = omega arith
+    go (inl x) (inl y) = absurd (let z : ⊥ = omega arith in z)
+    go (inr x) w = absurd (let z : ⊥ = omega arith in z)
+
 -- what is left of the rest has a borrow, in its highest place, where the digit is 0
 module _ (trial rest left : ℕ) (a : trial < 2 ^ 63) (b : rest < 2 ^ 63) (l : left < 2 ^ 64) (e : (left + trial) % 2 ^ 64 ≡ rest) where
   borrows : left / 2 ^ 63 ≡ 1 → rest < trial
@@ -38,15 +47,15 @@ square-more q s left = omega arith
 square-same : (q s rest : ℕ) → 8 * (q * q) + 2 * rest * s ≡ 8 * (q * q) + rest * (2 * s)
 square-same q s rest = omega arith
 
-module _ (n s rest next up down : ℕ) (t : Tried n (2 * s) rest next up down) where
+module _ (n s rest next up down down' : ℕ) (t : Tried n (2 * s) rest next up down) (halved : down' + s ≡ 2 ^ 64) where
   abbrev q : ℕ
   q = t .root
 
   sizes : (next < 2 ^ 63) × (rest < 2 ^ 63)
   sizes = let a = t .trial in let b = t .small in let c = t .room in (omega arith, omega arith)
 
-  halves : (up / 2 ^ 1 ≡ 3 * s) × (down / 2 ^ 1 + 2 ^ 63 + s ≡ 2 ^ 64)
-  halves = let a = t .one in let b = t .none in (omega arith, omega arith)
+  half-up : up / 2 ^ 1 ≡ 3 * s
+  half-up = let a = t .one in omega arith
 
   none-next : (next + down) % 2 ^ 64 ≡ 8 * q + 2 * s
   none-next = let a = t .trial in let b = t .none in let c = t .room in omega arith
@@ -57,7 +66,7 @@ module _ (n s rest next up down : ℕ) (t : Tried n (2 * s) rest next up down) w
   double : (x : ℕ) → x < 2 ^ 63 → x * 2 ^ 1 % 2 ^ 64 ≡ 2 * x
   double x h = omega arith
 
-  next-none : rest < next → Tried n s (rest * 2 ^ 1 % 2 ^ 64) ((next + down) % 2 ^ 64) (up / 2 ^ 1) (down / 2 ^ 1 + 2 ^ 63)
+  next-none : rest < next → Tried n s (rest * 2 ^ 1 % 2 ^ 64) ((next + down) % 2 ^ 64) (up / 2 ^ 1) down'
   next-none h =
       let d = double rest (sizes .1) in
       let a = t .trial in
@@ -67,12 +76,12 @@ module _ (n s rest next up down : ℕ) (t : Tried n (2 * s) rest next up down) w
         sum = ap (λ (x : ℕ). 8 * (q * q) + x * s) d ∙ square-same q s rest ∙ t .sum;
         small = (omega arith);
         trial = none-next;
-        one = halves .0;
-        none = halves .1;
+        one = half-up;
+        none = halved;
         room = (omega arith);
       }
 
-  next-one : (left : ℕ) → left + next ≡ rest → Tried n s (left * 2 ^ 1 % 2 ^ 64) ((next + up) % 2 ^ 64) (up / 2 ^ 1) (down / 2 ^ 1 + 2 ^ 63)
+  next-one : (left : ℕ) → left + next ≡ rest → Tried n s (left * 2 ^ 1 % 2 ^ 64) ((next + up) % 2 ^ 64) (up / 2 ^ 1) down'
   next-one left h =
       let z = sizes in
       let d = double left (let y : left < 2 ^ 63 = omega arith in y) in
@@ -84,22 +93,22 @@ module _ (n s rest next up down : ℕ) (t : Tried n (2 * s) rest next up down) w
         sum = ap (λ (x : ℕ). 8 * ((q + s) * (q + s)) + x * s) d ∙ square-more q s left ∙ ap (λ (x : ℕ). 8 * (q * q) + x * (2 * s)) (ap (λ (x : ℕ). left + x) (sym a) ∙ h) ∙ t .sum;
         small = (omega arith);
         trial = one-next;
-        one = halves .0;
-        none = halves .1;
+        one = half-up;
+        none = halved;
         room = (omega arith);
       }
 
-  chosen : {r r' m m' : ℕ} → r' ≡ r → m' ≡ m → Tried n s (r * 2 ^ 1 % 2 ^ 64) ((next + m) % 2 ^ 64) (up / 2 ^ 1) (down / 2 ^ 1 + 2 ^ 63)
-      → Tried n s (r' * 2 ^ 1 % 2 ^ 64) ((next + m') % 2 ^ 64) (up / 2 ^ 1) (down / 2 ^ 1 + 2 ^ 63)
+  chosen : {r r' m m' : ℕ} → r' ≡ r → m' ≡ m → Tried n s (r * 2 ^ 1 % 2 ^ 64) ((next + m) % 2 ^ 64) (up / 2 ^ 1) down'
+      → Tried n s (r' * 2 ^ 1 % 2 ^ 64) ((next + m') % 2 ^ 64) (up / 2 ^ 1) down'
   chosen {r} {r'} {m} {m'} a b w =
-      subst (λ (x : ℕ). Tried n s (x * 2 ^ 1 % 2 ^ 64) ((next + m') % 2 ^ 64) (up / 2 ^ 1) (down / 2 ^ 1 + 2 ^ 63)) (sym a)
-      (subst (λ (x : ℕ). Tried n s (r * 2 ^ 1 % 2 ^ 64) ((next + x) % 2 ^ 64) (up / 2 ^ 1) (down / 2 ^ 1 + 2 ^ 63)) (sym b) w)
+      subst (λ (x : ℕ). Tried n s (x * 2 ^ 1 % 2 ^ 64) ((next + m') % 2 ^ 64) (up / 2 ^ 1) down') (sym a)
+      (subst (λ (x : ℕ). Tried n s (r * 2 ^ 1 % 2 ^ 64) ((next + x) % 2 ^ 64) (up / 2 ^ 1) down') (sym b) w)
 
   -- from the code's two choices, both by the borrow
   pub digit : (left rest' more : ℕ) → left < 2 ^ 64 → (left + next) % 2 ^ 64 ≡ rest
       → ((left / 2 ^ 63 ≡ 1) × (rest' ≡ rest)) ⊎ ((left / 2 ^ 63 ≡ 1 → ⊥) × (rest' ≡ left))
       → ((left / 2 ^ 63 ≡ 1) × (more ≡ down)) ⊎ ((left / 2 ^ 63 ≡ 1 → ⊥) × (more ≡ up))
-      → Tried n s (rest' * 2 ^ 1 % 2 ^ 64) ((next + more) % 2 ^ 64) (up / 2 ^ 1) (down / 2 ^ 1 + 2 ^ 63)
+      → Tried n s (rest' * 2 ^ 1 % 2 ^ 64) ((next + more) % 2 ^ 64) (up / 2 ^ 1) down'
   digit left rest' more l e (inl c) (inl d) = chosen (c .1) (d .1) (next-none (borrows next rest left (sizes .0) (sizes .1) l e (c .0)))
   digit left rest' more l e (inr c) (inr d) = chosen (c .1) (d .1) (next-one left (no-borrow next rest left (sizes .0) (sizes .1) l e (c .0)))
   digit left rest' more l e (inl c) (inr d) = absurd (d .0 (c .0))
@@ -125,18 +134,18 @@ last m rest next up down left t l e = go (lt-or-le left (2 ^ 63))
     q = t .root
 
     sized : (next < 2 ^ 63) × (rest < 2 ^ 63)
-    sized = sizes (m * 2 ^ 54) 1 rest next up down t
+    sized = sizes (m * 2 ^ 54) 1 rest next up down (2 ^ 64 - 1) t refl
 
     so-far : next / 2 ^ 3 ≡ q
     so-far = let a = t .trial in omega arith
 
     go : (left < 2 ^ 63) ⊎ (2 ^ 63 ≤ left) → next / 2 ^ 3 + 1 - left / 2 ^ 63 ≡ wholeRoot (m * 2 ^ 51)
     go (inl h) =
-        let w = next-one (m * 2 ^ 54) 1 rest next up down t left (no-borrow next rest left (sized .0) (sized .1) l e (λ x. (let z : ⊥ = omega arith in z))) in
+        let w = next-one (m * 2 ^ 54) 1 rest next up down (2 ^ 64 - 1) t refl left (no-borrow next rest left (sized .0) (sized .1) l e (λ x. (let z : ⊥ = omega arith in z))) in
         let s = so-far in
         (let z : next / 2 ^ 3 + 1 - left / 2 ^ 63 ≡ q + 1 = omega arith in z) ∙ found m (q + 1) (left * 2 ^ 1 % 2 ^ 64) (w .sum) (w .small)
     go (inr h) =
-        let w = next-none (m * 2 ^ 54) 1 rest next up down t (borrows next rest left (sized .0) (sized .1) l e (let z : left / 2 ^ 63 ≡ 1 = omega arith in z)) in
+        let w = next-none (m * 2 ^ 54) 1 rest next up down (2 ^ 64 - 1) t refl (borrows next rest left (sized .0) (sized .1) l e (let z : left / 2 ^ 63 ≡ 1 = omega arith in z)) in
         let s = so-far in
         (let z : next / 2 ^ 3 + 1 - left / 2 ^ 63 ≡ q = omega arith in z) ∙ found m q (rest * 2 ^ 1 % 2 ^ 64) (w .sum) (w .small)
 

@@ -6,7 +6,7 @@
 // end. The next digit, at s/2, adds s(8q + 2s)/8 to the square: it is 1 where `next`, 8q + 2s, can be taken from the rest.
 // The 54th digit rounds: up where it is 1. There is no tie, since the root is then no whole number: n is even, and an odd square is not.
 ghost use mathlib.Core.Path.{_≡_};
-ghost use Prim.Native.Nat.{ℕ, _*_, _^_, _<_, _≤_};
+ghost use Prim.Native.Nat.{ℕ, _+_, _*_, _^_, _<_, _≤_};
 ghost use Rattle.root.specs.Root.{rootOf, roundRoot, wholeRoot};
 ghost use Rattle.root.specs.Steps.{Tried, Aligned};
 
@@ -16,6 +16,14 @@ struct Trial {
     next: u64,
     up: u64,
     down: u64,
+}
+
+// Half of a number below nothing, kept as 2^64 - s: its highest place stays 1. (So written it is one shift of the processor, which fills up with the highest place.)
+fn negative_half(down: u64) -> u64
+    ensures { λ r. ⌜ ((s : ℕ) → s ≤ 2 ^ 62 → down + 2 * s ≡ 2 ^ 64 → r + s ≡ 2 ^ 64) ⌝ }
+{
+    let below = std::num::wrapping_sub_u64(down, 0x8000_0000_0000_0000);
+    std::num::wrapping_sub_u64(below >> 1, 0x4000_0000_0000_0000)
 }
 
 // One more binary digit of the root. It is 0 where taking the trial away would borrow: a choice, and not a branch, which
@@ -32,7 +40,7 @@ fn step(p: Trial) -> Trial
         rest: rest << 1,
         next: std::num::wrapping_add_u64(p.next, more),
         up: p.up >> 1,
-        down: (p.down >> 1) + 0x8000_0000_0000_0000,
+        down: negative_half(p.down),
     }
 }
 

@@ -17,7 +17,6 @@ ellipe-spec =
     (λ c. tt)
     (λ c. at-minus-infinity _ _ _ _ _ (c .before .before .before .if1 .left) (c .before .before .if2 .left) (c .before .if3 .left) (c .if4 .taken))
     (λ c κs. search needs)
-    (λ c κs. search needs)
-    (λ c. where-negative _ _ _ _ _ _ (c .before .before .before .before .before .before .if1 .left) (c .before .before .before .before .before .if2 .left) (c .before .before .before .before .if3 .left) (c .before .before .before .if4 .left) (c .before .before .if5 .taken) (rw (c .e-negative .ensures, c .before .root .ensures)))
+    (λ c. where-negative _ _ _ _ _ _ (c .before .before .before .before .before .if1 .left) (c .before .before .before .before .if2 .left) (c .before .before .before .if3 .left) (c .before .before .if4 .left) (c .before .if5 .taken) (rw (c .e-negative .ensures)))
     (λ c κs. search needs)
     (λ c. below-one _ _ _ _ _ _ (c .before .before .before .before .before .if1 .left) (c .before .before .before .before .if2 .left) (c .before .before .before .if3 .left) (c .before .before .if4 .left) (c .before .if5 .left) (rw (c .e-below-one .ensures))))

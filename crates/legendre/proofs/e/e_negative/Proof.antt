@@ -1,10 +1,9 @@
--- The test of m1 decides, as in the definition.
-use mathlib.Core.Path.{ap}
+-- The test of m1 decides, as in the definition (`Negative`).
 use borrow.Author.Needs.{needs}
 use lib.Ieee.{ofBits}
-use Rattle.laws.specs.Ladder.{held, passed}
 use Rattle.laws.specs.Arithmetic.{dec, _⊗_}
-use Rattle.legendre.specs.Ellipe.{eNegativeOf}
+use Rattle.legendre.specs.Ellipe.{eMeanOf, eBelowOneOf, eNegativeOf}
+use Rattle.legendre.proofs.Negative.{by-mean, by-piece}
 use Rattle.legendre.proofs.e.e_negative.Statement.{statement}
 use Rattle.legendre.proofs.e.e_negative.Tie as tie
 
@@ -14,6 +13,8 @@ e-negative-spec =
     tie.close
     (tie.spec
     (λ c κs. search needs)
-    (λ c. ap (λ z. c .before .before .args .c ⊗ z) (held _ _ (c .before .if1 .taken) (c .e-mean .ensures)))
     (λ c κs. search needs)
-    (λ c. ap (λ z. c .before .before .args .c ⊗ z) (passed _ _ (c .before .if1 .left) (c .e-below-one .ensures))))
+    (λ c. by-mean (λ c e. c ⊗ e) (eMeanOf 32) (eBelowOneOf 32 _) (c .before .root .ensures) (c .e-mean .ensures) (c .before .before .if1 .taken))
+    (λ c κs. search needs)
+    (λ c κs. search needs)
+    (λ c. by-piece (λ c e. c ⊗ e) (eMeanOf 32) (eBelowOneOf 32 _) (c .root2 .ensures) (c .before .e-below-one .ensures) (c .before .before .if1 .left)))

@@ -11,7 +11,7 @@ use Rattle.angle.specs.Alternating.{squareOf, alternatingOf, upToFour}
 use Rattle.angle.specs.Sine.{sineAt, sineOf}
 use Rattle.angle.specs.Cosine.{cosineAt, cosineOf}
 use Rattle.carlson.specs.Loop.{iterate, duplicated}
-use Rattle.carlson.specs.Series.{largerOf, rootsOf, fifthOf, trustedOf}
+use Rattle.carlson.specs.Series.{largerOf, rootsOf, fifthOf}
 use Rattle.rf.specs.Rf as Rf
 use Rattle.rd.specs.Rd as Rd
 use Rattle.incomplete.specs.Period.{foldedOf}
@@ -47,5 +47,5 @@ pub record Corners : Type 0 where
   pub two-after-both : countedOf (float 0x400a_6666_6666_6666) 2·0 ≡ record { answer = Refused 2; rounds = 5 }
 
 pub corners : Corners
-unfolding ellipeincOf countedOf onSizeOf reducedOf byRecipeOf withPeriodsOf recipeOf aboveOf ownOf foldedOf sineOf sineAt cosineOf cosineAt upToFour squareOf alternatingOf Rf.rfOf Rf.startOf Rf.stopsOf Rf.nextOf Rf.roundOf Rf.closedOf Rf.seriesOf Rd.rdOf Rd.startOf Rd.stopsOf Rd.nextOf Rd.roundOf Rd.closedOf Rd.seriesOf largerOf rootsOf fifthOf trustedOf iterate duplicated rootOf roundOf farOf itselfOf signOf handedOf valueOf magnitudeOf ellipeOf ellipeWithin byDomain eBelowOneOf belowOneOf truncatedOf rowOf pieceOf centreOf ePieceOf eRows polyevalOf pairedOf hornerOf dec toUnsigned ofBits lt le eq ne add sub sum mul div rem neg round
+unfolding ellipeincOf countedOf onSizeOf reducedOf byRecipeOf withPeriodsOf recipeOf aboveOf ownOf foldedOf sineOf sineAt cosineOf cosineAt upToFour squareOf alternatingOf Rf.rfOf Rf.startOf Rf.stopsOf Rf.nextOf Rf.roundOf Rf.closedOf Rf.seriesOf Rd.rdOf Rd.startOf Rd.stopsOf Rd.nextOf Rd.roundOf Rd.closedOf Rd.seriesOf largerOf rootsOf fifthOf iterate duplicated rootOf roundOf farOf itselfOf signOf handedOf valueOf magnitudeOf ellipeOf ellipeWithin byDomain eBelowOneOf belowOneOf truncatedOf rowOf pieceOf centreOf ePieceOf eRows polyevalOf pairedOf hornerOf dec toUnsigned ofBits lt le eq ne add sub sum mul div rem neg round
 corners = record { zero-nan = refl; tiny-bottom = refl; least-bottom = refl; infinite-nan = refl; nan-bottom = refl; large-one = refl; most-one = refl; most-half = refl; most-zero = refl; most-nan = refl; most-two = refl; three-unasked = refl; two-after-both = refl }

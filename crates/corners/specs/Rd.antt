@@ -6,7 +6,7 @@ use Rattle.laws.specs.Arithmetic.{float, +0, 1·0, 2·0, 3·0, 4·0}
 use Rattle.root.specs.Root.{rootOf}
 use Rattle.whole.specs.Whole.{magnitudeOf}
 use Rattle.carlson.specs.Loop.{iterate, duplicated}
-use Rattle.carlson.specs.Series.{largerOf, rootsOf, fifthOf, trustedOf}
+use Rattle.carlson.specs.Series.{largerOf, rootsOf, fifthOf}
 use Rattle.rd.specs.Rd.{startOf, stopsOf, nextOf, roundOf, closedOf, seriesOf, rdOf}
 
 pub record Corners : Type 0 where
@@ -16,5 +16,5 @@ pub record Corners : Type 0 where
   pub two-three-four : rdOf 2·0 3·0 4·0 ≡ record { value = float 0x3fc5_222b_69d7_c3e7; met = true; rounds = 5; inside = 0 }
 
 pub corners : Corners
-unfolding rdOf startOf stopsOf nextOf roundOf closedOf seriesOf largerOf rootsOf fifthOf trustedOf iterate duplicated rootOf magnitudeOf ofBits neg add sub sum mul div lt le eq ne round
+unfolding rdOf startOf stopsOf nextOf roundOf closedOf seriesOf largerOf rootsOf fifthOf iterate duplicated rootOf magnitudeOf ofBits neg add sub sum mul div lt le eq ne round
 corners = record { zero-two-one = refl; two-three-four = refl }

@@ -1,7 +1,7 @@
 -- How many rounds ellipeinc's recipes make in all (02, [3]): at most 64 of RF and 64 of RD; none where no recipe is asked. Assumes nothing.
 use mathlib.Core.Path.{_≡_}
 use mathlib.Core.Bool.{false, _&&_, _||_}
-use Prim.Native.Nat.{ℕ, _≤_, _<_, _+_}
+use Prim.Native.Nat.{_≤_, _<_, _+_}
 use native.Mathlib.Omega.{arith}
 use lib.Ieee.{Float}
 use Rattle.laws.specs.Arithmetic.{_⊖_, _⊗_, _⊘_, _<·_, _≤·_, _=·_, _≠·_, +0, +∞, -∞, 1·0}
@@ -12,11 +12,13 @@ use Rattle.answer.specs.declared.Counted.{Counted}
 use Rattle.answer.specs.declared.Term.{Term}
 use Rattle.answer.specs.laws.Fair.{rung}
 use Rattle.answer.specs.laws.Rounds.{asked}
+use Rattle.rf.specs.Rf.{rfOf}
 use Rattle.rf.specs.laws.Counts.{rf-counts}
+use Rattle.rd.specs.Rd.{rdOf}
 use Rattle.rd.specs.laws.Counts.{rd-counts}
 use Rattle.incomplete.specs.Period.{far-out, foldedOf}
 use Rattle.incomplete.specs.Scaling.{λ4, largeOf}
-use Rattle.ellipeinc.specs.Ellipeinc.{signOf, ownOf, cancelling, twoTermsOf, belowOf, aboveOf, recipeOf, byRecipeOf, reducedOf, onSizeOf, countedOf}
+use Rattle.ellipeinc.specs.Ellipeinc.{ownOf, cancelling, twoTermsOf, trustedTermsOf, belowOf, aboveOf, recipeOf, byRecipeOf, reducedOf, onSizeOf, countedOf}
 
 -- ---- the most
 abbrev Few : Term → Type 0
@@ -25,19 +27,18 @@ Few t = t .rounds ≤ 128
 abbrev FewOf : Counted → Type 0
 FewOf c = c .rounds ≤ 128
 
-sum-few : (f d : ℕ) → f ≤ 64 → d ≤ 64 → f + d ≤ 128
-sum-few f d h k = omega arith
-
-terms-few : (m c c1 : Float) → Few (twoTermsOf m c c1)
-unfolding twoTermsOf
-terms-few m c c1 = sum-few _ _ (rf-counts c1 (c ⊖ m) c .most) (rd-counts c1 (c ⊖ m) c .most)
+asked-few : (x y z : Float) → rfOf x y z .rounds + rdOf x y z .rounds ≤ 128
+asked-few x y z =
+    let f = rf-counts x y z .most in
+    let d = rd-counts x y z .most in
+    omega arith
 
 recipe-few : (m s2 c2 : Float) → Few (recipeOf m s2 c2)
-unfolding recipeOf belowOf aboveOf
+unfolding recipeOf belowOf twoTermsOf trustedTermsOf aboveOf
 recipe-few m s2 c2 =
     let c = 1·0 ⊘ s2 in
     let c1 = c2 ⊘ s2 in
-    rung Few (m <· +0 || cancelling <· m) _ _ (rung Few (largeOf m c || cancelling <· m) _ _ (terms-few (m ⊘ λ4) (c ⊘ λ4) (c1 ⊘ λ4)) (terms-few m c c1)) (sum-few _ _ (rf-counts c1 c (c ⊖ m) .most) (rd-counts c1 c (c ⊖ m) .most))
+    rung Few (m <· +0 || cancelling <· m) _ _ (rung Few (largeOf m c || cancelling <· m) _ _ (asked-few (c1 ⊘ λ4) (c ⊘ λ4 ⊖ m ⊘ λ4) (c ⊘ λ4)) (asked-few c1 (c ⊖ m) c)) (asked-few c1 c (c ⊖ m))
 
 pub ellipeinc-few : (φ m : Float) → countedOf φ m .rounds ≤ 128
 unfolding countedOf onSizeOf reducedOf byRecipeOf

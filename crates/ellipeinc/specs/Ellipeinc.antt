@@ -12,6 +12,8 @@ use Rattle.whole.specs.Whole.{magnitudeOf, roundOf}
 use Rattle.angle.specs.Sine.{sineOf}
 use Rattle.angle.specs.Cosine.{cosineOf}
 use Rattle.legendre.specs.Ellipe.{ellipeOf}
+use Rattle.carlson.specs.Series.{trustedOf}
+use Rattle.carlson.specs.declared.Outcome.{Outcome}
 use Rattle.rf.specs.Rf.{rfOf}
 use Rattle.rd.specs.Rd.{rdOf}
 use Rattle.answer.specs.Settle.{handedOf, unaskedOf}
@@ -51,12 +53,22 @@ lineOf sign size = handedOf (sign ⊗ (2·0 ⊗ halfTurns size ⊕ valueOf (sine
 unfoldable pub ownOf : Float → Float → Bool
 ownOf angle m = angle =· +0 || magnitudeOf m ⊗ angle ⊗ angle <· ε
 
--- c = 1 / sin² and c1 = cos² / sin², which is c - 1 (DLMF 19.25.9)
+-- c = 1 / sin² and c1 = cos² / sin², which is c - 1 (DLMF 19.25.9): the two terms, of what RF and RD gave; v is RD's value as it is taken
+abbrev pub twoTermsFrom : Float → Outcome → Outcome → Float → Term
+twoTermsFrom m f d v = record { value = f .value ⊖ m ⊗ v ⊘ 3·0; met = f .met && d .met; rounds = f .rounds + d .rounds }
+
 unfoldable pub twoTermsOf : Float → Float → Float → Term
 twoTermsOf m c c1 =
     let f = rfOf c1 (c ⊖ m) c in
     let d = rdOf c1 (c ⊖ m) c in
-    record { value = f .value ⊖ m ⊗ d .value ⊘ 3·0; met = f .met && d .met; rounds = f .rounds + d .rounds }
+    twoTermsFrom m f d (d .value)
+
+-- of arguments that were scaled: RD's value is tested. Where nothing is scaled they are at most 2^201, and no term of RD can be lost for want of range
+unfoldable pub trustedTermsOf : Float → Float → Float → Term
+trustedTermsOf m c c1 =
+    let f = rfOf c1 (c ⊖ m) c in
+    let d = rdOf c1 (c ⊖ m) c in
+    twoTermsFrom m f d (trustedOf (d .value))
 
 -- 2^12: above it the three terms below, of the size m·φ, would cancel to φ and lose more than twelve digits
 abbrev pub cancelling : Float
@@ -65,7 +77,7 @@ cancelling = float 0x40b0_0000_0000_0000
 -- for m < 0, and for m > 2^12. It has the degree -1/2 in m, c and c1: divided by λ they give √λ times as much
 unfoldable pub belowOf : Float → Float → Float → Term
 belowOf m c c1 =
-    let t = twoTermsOf (m ⊘ λ4) (c ⊘ λ4) (c1 ⊘ λ4) in
+    let t = trustedTermsOf (m ⊘ λ4) (c ⊘ λ4) (c1 ⊘ λ4) in
     cond (largeOf m c || cancelling <· m) (record { value = t .value ⊘ √λ; met = t .met; rounds = t .rounds }) (twoTermsOf m c c1)
 
 -- for 0 < m ≤ 2^12 (DLMF 19.25.10)

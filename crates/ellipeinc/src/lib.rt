@@ -8,6 +8,8 @@ use answer::Term;
 use answer::handed;
 use answer::infinity;
 use answer::unasked;
+use carlson::Outcome;
+use carlson::trusted;
 use incomplete::FAR_OUT;
 use incomplete::Fold;
 use incomplete::PI;
@@ -19,8 +21,9 @@ use incomplete::large;
 use incomplete::on_circle;
 use incomplete::sine;
 use rd::with_rf;
+ghost use Prim.Native.Nat.{_≤_};
 ghost use mathlib.Core.Path.{_≡_};
-ghost use Rattle.ellipeinc.specs.Ellipeinc.{signOf, itselfOf, farOf, lineOf, ownOf, twoTermsOf, belowOf, aboveOf, recipeOf, withPeriodsOf, byRecipeOf, reducedOf, onSizeOf, countedOf, ellipeincOf};
+ghost use Rattle.ellipeinc.specs.Ellipeinc.{signOf, itselfOf, farOf, lineOf, ownOf, twoTermsFrom, twoTermsOf, trustedTermsOf, belowOf, aboveOf, recipeOf, withPeriodsOf, byRecipeOf, reducedOf, onSizeOf, countedOf, ellipeincOf};
 
 // 2^12
 const CANCELLING: f64 = 4096.0;
@@ -65,17 +68,34 @@ fn own(angle: f64, m: f64) -> bool
     (angle == 0.0) | (whole::magnitude(m) * angle * angle < 2.220446049250313e-16)
 }
 
+// The two terms, of what RF and RD gave; v is RD's value as it is taken.
+fn terms_from(m: f64, f: Outcome, d: Outcome, v: f64) -> Term
+    requires { ⌜ (f .rounds ≤ 64) × (d .rounds ≤ 64) ⌝ }
+    ensures { λ r. ⌜ r ≡ twoTermsFrom m f d v ⌝ }
+{
+    Term {
+        value: f.value - m * v / 3.0,
+        met: f.met & d.met,
+        rounds: f.rounds + d.rounds,
+    }
+}
+
 fn two_terms(m: f64, c: f64, c1: f64) -> Term
     ensures { λ r. ⌜ r ≡ twoTermsOf m c c1 ⌝ }
 {
     let both = with_rf(c1, c - m, c);
-    let f = both.first;
     let d = both.second;
-    Term {
-        value: f.value - m * d.value / 3.0,
-        met: f.met & d.met,
-        rounds: f.rounds + d.rounds,
-    }
+    terms_from(m, both.first, d, d.value)
+}
+
+// Of arguments that were scaled, RD's value is tested. Where nothing is scaled they are at most 2^201, and no term of RD can be lost for want of range.
+fn trusted_terms(m: f64, c: f64, c1: f64) -> Term
+    ensures { λ r. ⌜ r ≡ trustedTermsOf m c c1 ⌝ }
+{
+    let both = with_rf(c1, c - m, c);
+    let d = both.second;
+    let v = trusted(d.value);
+    terms_from(m, both.first, d, v)
 }
 
 // Both terms are positive for m < 0, and above CANCELLING their difference keeps its digits. Far out RD's own value is no f64, so the scaling stands here and not in RD.
@@ -83,7 +103,7 @@ fn below(m: f64, c: f64, c1: f64) -> Term
     ensures { λ r. ⌜ r ≡ belowOf m c c1 ⌝ }
 {
     if large(m, c) | (m > CANCELLING) {
-        let t = two_terms(m / SCALE, c / SCALE, c1 / SCALE);
+        let t = trusted_terms(m / SCALE, c / SCALE, c1 / SCALE);
         return Term {
             value: t.value / ROOT_OF_SCALE,
             met: t.met,

@@ -6,7 +6,7 @@ use Rattle.laws.specs.Arithmetic.{_⊕_, _⊖_, _⊗_, _⊘_, _<·_, +0, 1·0, 
 use Rattle.root.specs.Root.{rootOf}
 use Rattle.whole.specs.Whole.{magnitudeOf}
 use Rattle.carlson.specs.Loop.{iterate, duplicated}
-use Rattle.carlson.specs.Series.{fifthOf, largerOf, rootsOf, trustedOf}
+use Rattle.carlson.specs.Series.{fifthOf, largerOf, rootsOf}
 use Rattle.carlson.specs.declared.Outcome.{Outcome}
 use Rattle.carlson.specs.declared.Roots.{Roots}
 use Rattle.rd.specs.declared.State.{State}
@@ -41,7 +41,7 @@ seriesOf s =
     fifthOf (xy ⊖ 6·0 ⊗ zz) ((3·0 ⊗ xy ⊖ 8·0 ⊗ zz) ⊗ z) (3·0 ⊗ (xy ⊖ zz) ⊗ zz) (xy ⊗ zz ⊗ z)
 
 unfoldable pub closedOf : State → ℕ → Outcome
-closedOf s rounds = record { value = trustedOf (s .scale ⊗ seriesOf s ⊘ (s .mean ⊗ rootOf (s .mean)) ⊕ 3·0 ⊗ s .sum); met = stopsOf s; rounds = rounds; inside = 0 }
+closedOf s rounds = record { value = s .scale ⊗ seriesOf s ⊘ (s .mean ⊗ rootOf (s .mean)) ⊕ 3·0 ⊗ s .sum; met = stopsOf s; rounds = rounds; inside = 0 }
 
 -- the rest of the run, from s after k rounds
 unfoldable pub finishOf : State → ℕ → Outcome

@@ -8,7 +8,6 @@ use carlson::Roots;
 use carlson::fifth;
 use carlson::larger;
 use carlson::roots_of;
-use carlson::trusted;
 ghost use mathlib.Core.Path.{_≡_};
 ghost use Rattle.rf.specs.Rf.{rfOf};
 ghost use Rattle.rd.specs.Rd.{startOf, stopsOf, nextOf, roundOf, closedOf, finishOf, rdOf};
@@ -87,9 +86,8 @@ impl State {
             xy * zz * z,
         );
         let tail = self.scale * series / (self.mean * root::root(self.mean));
-        let value = trusted(tail + 3.0 * self.sum);
         Outcome {
-            value,
+            value: tail + 3.0 * self.sum,
             met: self.stops(),
             rounds,
             inside: 0,

@@ -1,19 +1,16 @@
--- RD and RJ as they were before a value below 2^-960 became NaN, ellipeinc and ellippi as they were made of them, and how what is answered now compares. Definitions only.
+-- RJ as it was before a value below 2^-960 became NaN, ellippi as it was made of it, and how what is answered now compares. Definitions only.
 use Prim.Native.Nat.{ℕ, _+_}
 use mathlib.Core.Path.{_≡_}
 use mathlib.Core.Logic.{_⊎_}
-use mathlib.Core.Bool.{true, false, cond, _||_, _&&_}
+use mathlib.Core.Bool.{false, _||_, _&&_}
 use lib.Dec.{T}
 use lib.Ieee.{Float, binary64, fits, nan, neg}
 use lib.Ieee.Scale.{finite}
-use Rattle.laws.specs.Arithmetic.{_⊕_, _⊖_, _⊗_, _⊘_, _<·_, _≤·_, _=·_, _≠·_, +0, +∞, -∞, 1·0, 3·0, 6·0}
+use Rattle.laws.specs.Arithmetic.{_⊕_, _⊖_, _⊗_, _⊘_, _<·_, _=·_, _≠·_, +0, -∞, 1·0, 3·0, 6·0}
 use Rattle.laws.specs.Ladder.{when_gives_else_}
-use Rattle.whole.specs.Whole.{magnitudeOf}
 use Rattle.root.specs.Root.{rootOf}
 use Rattle.carlson.specs.Loop.{duplicated}
 use Rattle.carlson.specs.declared.Outcome.{Outcome}
-use Rattle.rd.specs.declared.State as RdState
-use Rattle.rd.specs.Rd as Rd
 use Rattle.rj.specs.declared.State as RjState
 use Rattle.rj.specs.Rj as Rj
 use Rattle.answer.specs.Answer.{refusalOf, valueOf}
@@ -22,16 +19,10 @@ use Rattle.answer.specs.declared.Answer.{Answer}
 use Rattle.answer.specs.declared.Answer.the-variants.{One, Infinite, Refused}
 use Rattle.answer.specs.declared.Counted.{Counted}
 use Rattle.answer.specs.declared.Term.{Term}
-use Rattle.angle.specs.Sine.{sineOf}
-use Rattle.angle.specs.Cosine.{cosineOf}
 use Rattle.legendre.specs.Ellipk.{ellipkOf}
 use Rattle.legendre.specs.Ellipe.{ellipeOf}
-use Rattle.incomplete.specs.Period.{far-out, foldedOf}
-use Rattle.incomplete.specs.Scaling.{largeOf}
-use Rattle.incomplete.specs.declared.Fold.{Fold}
-use Rattle.ellipeinc.specs.Ellipeinc as Ellipeinc
 use Rattle.ellippi.specs.Ellippi as Ellippi
-use Rattle.scaling.specs.Before.{rfBefore, angleOf, C, C1, Given}
+use Rattle.scaling.specs.Before.{rfBefore}
 
 -- ---- before and now
 
@@ -58,70 +49,13 @@ pub record KeptCounted (before now : Counted) : Type 0 where
   pub answer : KeptAnswer (before .answer) (now .answer)
   pub rounds : now .rounds ≡ before .rounds
 
--- ---- RD and RJ: the same rounds, the value closed without the last test
-
-unfoldable pub rdClosed : RdState.State → ℕ → Outcome
-rdClosed s rounds = record { value = s .scale ⊗ Rd.seriesOf s ⊘ (s .mean ⊗ rootOf (s .mean)) ⊕ 3·0 ⊗ s .sum; met = Rd.stopsOf s; rounds = rounds; inside = 0 }
-
-unfoldable pub rdBefore : Float → Float → Float → Outcome
-rdBefore x y z = duplicated Rd.stopsOf Rd.roundOf rdClosed (Rd.startOf x y z)
+-- ---- RJ: the same rounds, the value closed without the last test
 
 unfoldable pub rjClosed : RjState.State → ℕ → Outcome
 rjClosed s rounds = record { value = s .scale ⊗ Rj.seriesOf s ⊘ (s .mean ⊗ rootOf (s .mean)) ⊕ 6·0 ⊗ s .sum; met = Rj.stopsOf s && s .inner; rounds = rounds; inside = s .inside }
 
 unfoldable pub rjBefore : Float → Float → Float → Float → Outcome
 rjBefore x y z p = duplicated Rj.stopsOf Rj.roundOf rjClosed (Rj.startOf x y z p)
-
--- ---- ellipeinc, with the steps of 02's [7] and the rounds of [3]
-
--- the two terms, of what RF and RD gave (DLMF 19.25.9)
-abbrev pub twoTermsFrom : Float → Outcome → Outcome → Term
-twoTermsFrom m f d = record { value = f .value ⊖ m ⊗ d .value ⊘ 3·0; met = f .met && d .met; rounds = f .rounds + d .rounds }
-
--- for m < 0
-unfoldable pub twoTermsBefore : Float → Float → Float → Term
-twoTermsBefore m c c1 = twoTermsFrom m (rfBefore c1 (c ⊖ m) c) (rdBefore c1 (c ⊖ m) c)
-
--- the three terms (DLMF 19.25.10)
-abbrev pub aboveFrom : Float → Float → Float → Outcome → Outcome → Term
-aboveFrom m c c1 f d = record { value = (1·0 ⊖ m) ⊗ f .value ⊕ m ⊗ (1·0 ⊖ m) ⊗ d .value ⊘ 3·0 ⊕ m ⊗ rootOf (c1 ⊘ (c ⊗ (c ⊖ m))); met = f .met && d .met; rounds = f .rounds + d .rounds }
-
--- for m > 0
-unfoldable pub aboveBefore : Float → Float → Float → Term
-aboveBefore m c c1 = aboveFrom m c c1 (rfBefore c1 c (c ⊖ m)) (rdBefore c1 c (c ⊖ m))
-
-unfoldable pub recipeBefore : Float → Float → Float → Term
-recipeBefore m s2 c2 = cond (m <· +0) (twoTermsBefore m (1·0 ⊘ s2) (c2 ⊘ s2)) (aboveBefore m (1·0 ⊘ s2) (c2 ⊘ s2))
-
-unfoldable pub byRecipeBefore : Float → Float → Fold → Counted
-byRecipeBefore sign m f =
-    let s = valueOf (sineOf (f .angle)) in
-    let c = valueOf (cosineOf (f .angle)) in
-    let e = recipeBefore m (s ⊗ s) (c ⊗ c) in
-    when 1·0 ≤· m ⊗ (s ⊗ s) gives unaskedOf (Refused 3) else
-    record { answer = Ellipeinc.withPeriodsOf sign m (f .mm) (e .met) (f .s ⊗ e .value); rounds = e .rounds }
-
-unfoldable pub reducedBefore : Float → Float → Float → Counted
-reducedBefore sign size m =
-    let f = foldedOf size in
-    when Ellipeinc.ownOf (f .angle) m gives unaskedOf (Ellipeinc.withPeriodsOf sign m (f .mm) true (f .s ⊗ f .angle)) else
-    byRecipeBefore sign m f
-
-unfoldable pub onSizeBefore : Float → Float → Float → Counted
-onSizeBefore sign size m =
-    when far-out <· size gives unaskedOf (Ellipeinc.farOf sign size m) else
-    when m =· 1·0 gives unaskedOf (Ellipeinc.lineOf sign size) else
-    reducedBefore sign size m
-
-unfoldable pub ellipeincBefore : Float → Float → Counted
-ellipeincBefore φ m =
-    when φ =· +0 gives unaskedOf (One +0) else
-    when m =· +0 gives unaskedOf (Ellipeinc.itselfOf φ) else
-    when magnitudeOf φ =· +∞ gives unaskedOf (Infinite (φ <· +0)) else
-    when φ ≠· φ && 1·0 <· m gives unaskedOf (Refused 2) else
-    when φ ≠· φ || m ≠· m gives unaskedOf (Refused 1) else
-    when m =· -∞ gives unaskedOf (Infinite (φ <· +0)) else
-    onSizeBefore (Ellipeinc.signOf φ) (magnitudeOf φ) m
 
 -- ---- ellippi, with the rounds of 02's [3]
 
@@ -178,28 +112,18 @@ ellippiBefore n m =
     when n =· -∞ || m =· -∞ gives unaskedOf (One +0) else
     record { answer = settledOf (t .met) (t .value); rounds = t .rounds }
 
--- ---- where nothing is scaled, a number that is handed out has the bits from before
-
--- ellipeinc does not scale: m is not above 2^12, and for m < 0 neither C nor |m| is above 2^200
-pub record Unscaled (φ m : Float) : Type 0 where
-  pub not-above : Ellipeinc.cancelling <· m ≡ false
-  pub not-large : m <· +0 ≡ true → largeOf m (C φ) ≡ false
+-- ---- where the weight is formed as before, a number that is handed out has the bits from before
 
 -- ellippi's weight is formed as before: not m < 0 with 1 - n above 2^500
 abbrev pub Near : Float → Float → Type 0
 Near n m = (m <· +0 && Ellippi.far <· 1·0 ⊖ n) ≡ false
 
 pub record KeptOrRefused : Type 0 where
-  -- the recipes, at all arguments
-  pub rd : (x y z : Float) → KeptOutcome (rdBefore x y z) (Rd.rdOf x y z)
+  -- the recipe, at all arguments
   pub rj : (x y z p : Float) → KeptOutcome (rjBefore x y z p) (Rj.rjOf x y z p)
-  -- the terms, under the hypotheses of AsBefore: ellipeinc's two, its three, and ellippi's of every arm
-  pub two-terms : (φ m : Float) → Given φ m → largeOf m (C φ) ≡ false → KeptTerm (twoTermsBefore m (C φ) (C1 φ)) (Ellipeinc.twoTermsOf m (C φ) (C1 φ))
-  pub three-terms : (φ m : Float) → Given φ m → Ellipeinc.ownOf (angleOf φ) m ≡ false → (m <· +0 || Ellipeinc.cancelling <· m) ≡ false → KeptTerm (aboveBefore m (C φ) (C1 φ)) (Ellipeinc.aboveOf m (C φ) (C1 φ))
+  -- the terms of every arm
   pub arms : (n m : Float) → T (fits binary64 m) → T (finite m) → Near n m → KeptTerm (armsBefore n m) (Ellippi.armsOf n m)
-  -- the answers, with their rounds
-  pub ellipeinc : (φ m : Float) → T (fits binary64 m) → Unscaled φ m → KeptCounted (ellipeincBefore φ m) (Ellipeinc.countedOf φ m)
+  -- the answer, with its rounds
   pub ellippi : (n m : Float) → T (fits binary64 m) → Near n m → KeptCounted (ellippiBefore n m) (Ellippi.countedOf n m)
-  -- those that are no refusal
-  pub ellipeinc-answered : (φ m : Float) → T (fits binary64 m) → Unscaled φ m → refusalOf (Ellipeinc.ellipeincOf φ m) ≡ 0 → Ellipeinc.ellipeincOf φ m ≡ ellipeincBefore φ m .answer
+  -- one that is no refusal
   pub ellippi-answered : (n m : Float) → T (fits binary64 m) → Near n m → refusalOf (Ellippi.ellippiOf n m) ≡ 0 → Ellippi.ellippiOf n m ≡ ellippiBefore n m .answer

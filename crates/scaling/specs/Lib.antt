@@ -1,4 +1,4 @@
--- What a power of two does. Where a run loses no digits to the ends of the range (Clear and its like); that a power of four goes through operation, root, recipe and function, bit for bit (laws). RF as it was with another mean (Before), RD, RJ, ellipeinc and ellippi as they were (Kept), and where that made no difference.
+-- What a power of two does. Where a run loses no digits to the ends of the range (Clear and its like); that a power of four goes through operation, root, recipe and function, bit for bit (laws). RF as it was with another mean (Before), ellipeinc before it scaled (EllipeincBefore), RJ and ellippi as they were (Kept), and where that made no difference.
 pub mod Clear
 pub mod ClearRuns
 pub mod RfClear
@@ -7,5 +7,6 @@ pub mod EllipeincClear
 pub mod EllipfClear
 pub mod Moderate
 pub mod Before
+pub mod EllipeincBefore
 pub mod Kept
 pub mod laws

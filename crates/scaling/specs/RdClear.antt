@@ -1,13 +1,12 @@
 -- Where a run of RD loses no digits to the ends of the range: what each operation must keep, in the order of Rd.antt. Definitions only.
-use mathlib.Core.Bool.{not}
 use lib.Dec.{T}
 use lib.Ieee.{Float}
 use lib.Ieee.Scale.{finite}
-use Rattle.laws.specs.Arithmetic.{_⊕_, _⊗_, _⊘_, _<·_, 3·0, 4·0, 5·0, 1024·0}
+use Rattle.laws.specs.Arithmetic.{_⊕_, _⊗_, _⊘_, 3·0, 4·0, 5·0, 1024·0}
 use Rattle.scaling.specs.Clear.{ClearSum, ClearProduct, ClearQuotient}
 use Rattle.root.specs.Root.{rootOf}
 use Rattle.scaling.specs.ClearRuns.{ClearRoot, ClearQuarters, ClearDistances, ClearOffsets, ClearRun}
-use Rattle.carlson.specs.Series.{spreadOf, least}
+use Rattle.carlson.specs.Series.{spreadOf}
 use Rattle.rd.specs.declared.State.{State}
 use Rattle.rd.specs.Rd.{startOf, stopsOf, roundOf, seriesOf}
 
@@ -38,10 +37,6 @@ pub record ClearRound (s : State) : Type 0 where
   pub sum : ClearSum (s .sum) (s .scale ⊘ weightOf s)
   pub test : ClearTest (roundOf s)
 
--- the value before it is tested against `least`
-abbrev pub lastOf : State → Float
-lastOf s = s .scale ⊗ seriesOf s ⊘ (s .mean ⊗ rootOf (s .mean)) ⊕ 3·0 ⊗ s .sum
-
 -- the series is the same number for both, so nothing is asked inside it
 pub record ClearClosing (s : State) : Type 0 where
   pub offsets : ClearOffsets (s .mean) (s .x) (s .y)
@@ -52,7 +47,6 @@ pub record ClearClosing (s : State) : Type 0 where
   pub term : ClearQuotient (s .scale ⊗ seriesOf s) (s .mean ⊗ rootOf (s .mean))
   pub thrice : ClearProduct 3·0 (s .sum)
   pub value : ClearSum (s .scale ⊗ seriesOf s ⊘ (s .mean ⊗ rootOf (s .mean))) (3·0 ⊗ s .sum)
-  pub trusted : T (not (lastOf s <· least))
   pub test : ClearTest s
 
 pub record ClearRd (x y z : Float) : Type 0 where

@@ -1,4 +1,4 @@
--- The operations, the root, what the recipes share, the recipes, the functions; a point at which the hypotheses hold; RF's mean by quarters, and where it makes no difference; answers that are kept, or refused.
+-- The operations, the root, what the recipes share, the recipes, the functions; a point at which the hypotheses hold; RF's mean by quarters, and where it makes no difference; ellipeinc's answers, which are as before; ellippi's, which are kept or refused.
 pub mod Operations
 pub mod Root
 pub mod Recipes
@@ -18,4 +18,5 @@ pub mod Most
 pub mod Arguments
 pub mod Rest
 pub mod Before
+pub mod EllipeincBefore
 pub mod Kept

@@ -1,18 +1,16 @@
 -- The body is the definition, each call replaced by what it ensures.
 use native.Mathlib.Omega.{arith}
-use Rattle.carlson.specs.laws.Counts.{few}
-use Rattle.rf.specs.laws.Counts.{rf-counts}
-use Rattle.rd.specs.laws.Counts.{rd-counts}
 use Rattle.ellipeinc.specs.Ellipeinc.{aboveOf}
+use Rattle.ellipeinc.proofs.Few.{both-few}
 use borrow.Author.Needs.{needs}
 use Rattle.ellipeinc.proofs.above.Statement.{statement}
 use Rattle.ellipeinc.proofs.above.Tie as tie
 
 add-t18 : tie.Need-add-t18
 add-t18 c =
-    let both = c .before .before .before .before .before .before .before .before .before .with-rf .ensures in
-    let f = few (both .0) (rf-counts _ _ _) in
-    let d = few (both .1) (rd-counts _ _ _) in
+    let most = both-few _ _ _ (c .before .before .before .before .before .before .before .before .before .with-rf .ensures) in
+    let f = most .0 in
+    let d = most .1 in
     omega arith
 
 returns : tie.Need-returns

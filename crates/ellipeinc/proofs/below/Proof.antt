@@ -16,11 +16,11 @@ returns : tie.Need-returns
 unfolding belowOf
 returns c =
     let t = c .before .before in
-    held _ _ (scales _ (t .before .large .ensures) ∙ t .if1 .taken) (rw (c .before .two-terms .ensures))
+    held _ _ (scales _ (t .before .large .ensures) ∙ t .if1 .taken) (rw (c .before .trusted-terms .ensures))
 
 returns-2 : tie.Need-returns-2
 unfolding belowOf
-returns-2 c = let t = c .before in passed _ _ (scales _ (t .before .large .ensures) ∙ t .if1 .left) (c .two-terms2 .ensures)
+returns-2 c = let t = c .before in passed _ _ (scales _ (t .before .large .ensures) ∙ t .if1 .left) (c .two-terms .ensures)
 
 pub below-spec : {M : Type 1} → statement M
 below-spec = tie.close (tie.spec (λ c κs. search needs) (λ c κs. search needs) returns (λ c κs. search needs) returns-2)

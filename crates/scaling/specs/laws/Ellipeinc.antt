@@ -1,18 +1,21 @@
 -- Where neither way loses digits to the ends of the range, dividing m, c and c1 by λ changes no bit of the two terms. Assumes nothing.
-use mathlib.Core.Path.{_≡_, refl, sym, ap₂}
-use mathlib.Core.Bool.{Bool, true, false, cond, _&&_, _||_}
+use mathlib.Core.Path.{_≡_, refl, sym, ap, ap₂, subst}
+use mathlib.Core.Bool.{Bool, true, false, cond, not, _&&_, _||_}
 use Prim.Native.Nat.{ℕ, _+_}
 use native.Mathlib.Omega.{arith}
 use lib.Dec.{T}
-use lib.Ieee.{Float, binary64, ofBits, fits}
+use lib.Ieee.{Float, nan, binary64, ofBits, fits}
 use lib.Ieee.Fits.{sub-fits}
-use Rattle.laws.specs.Arithmetic.{_⊘_, _<·_, 3·0}
+use Rattle.laws.specs.Arithmetic.{_⊖_, _⊘_, _<·_, 3·0}
 use Rattle.scaling.specs.laws.Operations.{Times, times-as, times-sub, times-mul, times-over, undivided, divided}
 use Rattle.answer.specs.declared.Term.{Term}
+use Rattle.carlson.specs.Series.{least, trustedOf}
+use Rattle.rf.specs.Rf.{rfOf}
+use Rattle.rd.specs.Rd.{rdOf}
 use Rattle.scaling.specs.laws.Rf.{rf-scaled}
 use Rattle.scaling.specs.laws.Rd.{rd-scaled}
 use Rattle.incomplete.specs.Scaling.{λ4, √λ, largeOf}
-use Rattle.ellipeinc.specs.Ellipeinc.{twoTermsOf, belowOf, cancelling}
+use Rattle.ellipeinc.specs.Ellipeinc.{twoTermsFrom, twoTermsOf, trustedTermsOf, belowOf, cancelling}
 use Rattle.scaling.specs.EllipeincClear.{ClearTerms, ClearBoth}
 
 -- the two terms have the degree -1/2
@@ -34,12 +37,26 @@ terms-fit : (m c c1 : Float) → T (fits binary64 (twoTermsOf m c c1 .value))
 unfolding twoTermsOf
 terms-fit m c c1 = sub-fits binary64 _ _
 
+-- a value that stands the test is taken as it is
+trusted-is : (v : Float) → T (not (v <· least)) → trustedOf v ≡ v
+unfolding trustedOf
+trusted-is v h = go (v <· least) h
+  where
+    go : (b : Bool) → T (not b) → cond b nan v ≡ v
+    go true h = absurd h
+    go false h = refl
+
+trusted-terms : (m c c1 : Float) → T (not (rdOf c1 (c ⊖ m) c .value <· least)) → trustedTermsOf m c c1 ≡ twoTermsOf m c c1
+unfolding trustedTermsOf twoTermsOf
+trusted-terms m c c1 h = let d = rdOf c1 (c ⊖ m) c in ap (twoTermsFrom m (rfOf c1 (c ⊖ m) c) d) (trusted-is (d .value) h)
+
 -- so the large arguments' way is the plain one's there
 pub below-plain : (m c c1 : Float) → ClearBoth m c c1 → belowOf m c c1 ≡ twoTermsOf m c c1
 unfolding belowOf ofBits
 below-plain m c c1 h =
-    let t = twoTermsOf (m ⊘ λ4) (c ⊘ λ4) (c1 ⊘ λ4) in
-    let o = terms-scaled 256 (undivided 512 λ4 m (refl, refl) (h .finite-m) (h .fits-m) (h .m-over)) (undivided 512 λ4 c (refl, refl) (h .finite-c) (h .fits-c) (h .c-over)) (undivided 512 λ4 c1 (refl, refl) (h .finite-c1) (h .fits-c1) (h .c1-over)) (h .scaled) (h .plain) in
+    let t = trustedTermsOf (m ⊘ λ4) (c ⊘ λ4) (c1 ⊘ λ4) in
+    let s = terms-scaled 256 (undivided 512 λ4 m (refl, refl) (h .finite-m) (h .fits-m) (h .m-over)) (undivided 512 λ4 c (refl, refl) (h .finite-c) (h .fits-c) (h .c-over)) (undivided 512 λ4 c1 (refl, refl) (h .finite-c1) (h .fits-c1) (h .c1-over)) (h .scaled) (h .plain) in
+    let o = subst (λ (u : Term). TermOver 256 u (twoTermsOf m c c1)) (sym (trusted-terms (m ⊘ λ4) (c ⊘ λ4) (c1 ⊘ λ4) (h .trusted))) s in
     go (largeOf m c || cancelling <· m) (t .value ⊘ √λ) (t .met) (t .rounds) (twoTermsOf m c c1) (divided 256 √λ (refl, refl) (terms-fit m c c1) (o .value)) (o .met) (o .rounds)
   where
     go : (b : Bool) (v : Float) (k : Bool) (n : ℕ) (u : Term) → u .value ≡ v → u .met ≡ k → u .rounds ≡ n → cond {A = Term} b (record { value = v; met = k; rounds = n }) u ≡ u

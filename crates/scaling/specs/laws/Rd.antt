@@ -1,19 +1,18 @@
 -- RD of 4^i times its arguments is RD of them over 8^i, bit for bit, where no run loses digits to the ends of the range. Assumes nothing.
 use mathlib.Core.Path.{_≡_, refl, sym, subst}
-use mathlib.Core.Bool.{Bool, true, false, not, cond}
 use Prim.Native.Nat.{ℕ, _+_}
 use native.Mathlib.Omega.{arith}
 use lib.Dec.{T}
-use lib.Ieee.{Float, nan, binary64, ofBits, fits}
+use lib.Ieee.{Float, binary64, ofBits, fits}
 use lib.Ieee.Fits.{add-fits}
-use Rattle.laws.specs.Arithmetic.{_⊗_, _<·_, 3·0, 4·0, 5·0, 8·0, 1024·0}
+use Rattle.laws.specs.Arithmetic.{_⊗_, 3·0, 4·0, 5·0, 8·0, 1024·0}
 use Rattle.scaling.specs.laws.Operations.{Times, times-as, times-own, times-zero, times-add, times-mul, times-div, times-over, times-by, times-lt, multiplied}
 use Rattle.scaling.specs.laws.Root.{times-root}
-use Rattle.carlson.specs.Series.{rootsOf, fifthOf, trustedOf, least}
+use Rattle.carlson.specs.Series.{rootsOf, fifthOf}
 use Rattle.scaling.specs.laws.Recipes.{times-distance, times-spread, times-quarter, offset-same, Over, Divided, over-divided, scaled-run}
 use Rattle.rd.specs.declared.State.{State}
 use Rattle.rd.specs.Rd.{startOf, stopsOf, nextOf, roundOf, seriesOf, closedOf, rdOf}
-use Rattle.scaling.specs.RdClear.{ClearTest, ClearStart, ClearRound, lastOf, ClearClosing, ClearRd}
+use Rattle.scaling.specs.RdClear.{ClearTest, ClearStart, ClearRound, ClearClosing, ClearRd}
 
 -- the arguments of t are 4^i times those of s, the scale is the same, and the sum is over 8^i
 record Alike (i : ℕ) (s t : State) : Type 0 where
@@ -63,31 +62,19 @@ series-fits : (s : State) → T (fits binary64 (seriesOf s))
 unfolding seriesOf fifthOf
 series-fits s = add-fits binary64 _ _
 
-trusted-is : (v : Float) → T (not (v <· least)) → trustedOf v ≡ v
-unfolding trustedOf
-trusted-is v h = go (v <· least) h
-  where
-    go : (b : Bool) → T (not b) → cond b nan v ≡ v
-    go true h = absurd h
-    go false h = refl
-
-last-scaled : (i : ℕ) (s t : State) → Alike i s t → ClearClosing s → ClearClosing t → Times 0 (i + (i + i)) (lastOf s) (lastOf t)
-unfolding ofBits fits
-last-scaled i s t a c d =
+ends : (i : ℕ) (s t : State) (k : ℕ) → Alike i s t → ClearClosing s → ClearClosing t → Over (i + (i + i)) (closedOf s k) (closedOf t k)
+unfolding closedOf ofBits fits
+ends i s t k a c d =
     let series = subst (λ (r : Float). Times 0 0 (seriesOf s) r) (series-same i s t a c d) (times-own 0 (c .series) (series-fits s)) in
     let weight = times-mul (a .mean) (times-root {i = i} {j = 0} (a .mean) (c .root) (d .root)) (c .weight) (d .weight) in
     let term = times-div (times-mul (a .scale) series (c .share) (d .share)) weight (c .term) (d .term) in
-    times-add (times-as 0 (i + (i + i)) (let z : 0 + 0 + (i + (i + i)) ≡ 0 + (0 + (i + i + i)) = omega arith in z) term) (times-by 3·0 tt tt (a .sum) (c .thrice) (d .thrice)) (c .value) (d .value)
-
-ends : (i : ℕ) (s t : State) (k : ℕ) → Alike i s t → ClearClosing s → ClearClosing t → Over (i + (i + i)) (closedOf s k) (closedOf t k)
-unfolding closedOf
-ends i s t k a c d = record {
-  value = subst (λ (r : Float). Times 0 (i + (i + i)) r (trustedOf (lastOf t))) (sym (trusted-is (lastOf s) (c .trusted))) (subst (λ (r : Float). Times 0 (i + (i + i)) (lastOf s) r) (sym (trusted-is (lastOf t) (d .trusted))) (last-scaled i s t a c d));
-  fit = subst (λ (r : Float). T (fits binary64 r)) (sym (trusted-is (lastOf t) (d .trusted))) (add-fits binary64 _ _);
-  met = sym (test-same i s t a (c .test) (d .test));
-  rounds = refl;
-  inside = refl;
-}
+    record {
+      value = times-add (times-as 0 (i + (i + i)) (let z : 0 + 0 + (i + (i + i)) ≡ 0 + (0 + (i + i + i)) = omega arith in z) term) (times-by 3·0 tt tt (a .sum) (c .thrice) (d .thrice)) (c .value) (d .value);
+      fit = add-fits binary64 _ _;
+      met = sym (test-same i s t a (c .test) (d .test));
+      rounds = refl;
+      inside = refl;
+    }
 
 started : (i : ℕ) {x y z x' y' z' : Float} → Times (i + i) 0 x x' → Times (i + i) 0 y y' → Times (i + i) 0 z z' → ClearStart x y z → ClearStart x' y' z' → Alike i (startOf x y z) (startOf x' y' z')
 unfolding startOf ofBits fits

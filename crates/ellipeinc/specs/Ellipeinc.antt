@@ -63,7 +63,7 @@ twoTermsOf m c c1 =
     let d = rdOf c1 (c ⊖ m) c in
     twoTermsFrom m f d (d .value)
 
--- of arguments that were scaled: RD's value is tested. Where nothing is scaled they are at most 2^201, and no term of RD can be lost for want of range
+-- of arguments that were scaled: RD's value is tested. Where nothing is scaled they are at most 2^201, and no term of RD can be lost for want of range (scaling, RdTerms)
 unfoldable pub trustedTermsOf : Float → Float → Float → Term
 trustedTermsOf m c c1 =
     let f = rfOf c1 (c ⊖ m) c in

@@ -1,4 +1,4 @@
--- The operations, the root, what the recipes share, the recipes, the functions; a point at which the hypotheses hold; RF's mean by quarters, and where it makes no difference; ellipeinc's answers, which are as before; ellippi's, which are kept or refused.
+-- The operations, the root, what the recipes share, the recipes, the functions; a point at which the hypotheses hold; RF's mean by quarters, and where it makes no difference; ellipeinc's answers, which are as before; ellippi's, which are kept or refused; RD's terms, none of which is lost.
 pub mod Operations
 pub mod Root
 pub mod Recipes
@@ -20,3 +20,4 @@ pub mod Rest
 pub mod Before
 pub mod EllipeincBefore
 pub mod Kept
+pub mod RdTerms

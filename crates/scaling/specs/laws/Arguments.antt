@@ -37,7 +37,7 @@ use Rattle.scaling.specs.laws.Moderate.{moderate-of, most-units}
 use Rattle.scaling.specs.laws.Folded.{neither}
 use Rattle.scaling.specs.laws.Most.{small-finite}
 
-within-one : Within 1074 1074 1·0
+pub within-one : Within 1074 1074 1·0
 unfolding ofBits
 within-one = record { units = 2 ^ 1074; value = (refl, refl); least = lit≤ tt; most = lit≤ tt }
 
@@ -96,7 +96,7 @@ square-within {x} v h = go (lt-or-le (v .units) (2 ^ 873))
     go (inr l) = record { units = v .units; value = v .value; least = l; most = v .most }
 
 -- 1 and more
-plain-sum : (a b : ℕ) → sum binary64 false a false b (2 ^ 1074) ≡ round binary64 false (a + b) (2 ^ 1074)
+pub plain-sum : (a b : ℕ) → sum binary64 false a false b (2 ^ 1074) ≡ round binary64 false (a + b) (2 ^ 1074)
 unfolding sum
 plain-sum a b = refl
 
@@ -117,7 +117,7 @@ plus-one {i} {x} v =
 
 -- ---- what is asked, from sizes of sine, cosine and m
 module _ (sine cosine m : Float) (f : T (fits binary64 m)) (s2 : Within 873 1238 (sine ⊗ sine)) (M : Small 1274 m) where
-  c-within : Within 910 1275 (cOf sine)
+  pub c-within : Within 910 1275 (cOf sine)
   c-within = within-div 910 1275 (lit< tt) (lit< tt) (lit≤ tt) (lit≤ tt) within-one s2
 
   pub c-moderate : T (moderate (cOf sine))
@@ -127,7 +127,7 @@ module _ (sine cosine m : Float) (f : T (fits binary64 m)) (s2 : Within 873 1238
   below-moderate = let r = ranged-sub 856 (lit< tt) (lit< tt) (lit≤ tt) (div-fits binary64 1·0 (sine ⊗ sine)) f c-within (wider 1275 (lit≤ tt) M) in moderate-of (ranged-looser 674 1474 (lit≤ tt) (lit≤ tt) (r .1))
 
   module _ (t : Bool) (K : Ranged t 1014 1158 cosine) where
-    c1-ranged : Ranged false 790 1443 (c1Of sine cosine)
+    pub c1-ranged : Ranged false 790 1443 (c1Of sine cosine)
     c1-ranged = ranged-div 790 1443 (lit< tt) (lit< tt) (lit≤ tt) (lit≤ tt) (ranged-square 954 1242 (lit< tt) (lit< tt) (lit≤ tt) (lit≤ tt) K) s2
 
     pub c1-moderate : T (moderate (c1Of sine cosine))

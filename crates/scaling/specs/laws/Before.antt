@@ -37,7 +37,7 @@ module _ (φ m : Float) (g : Given φ m) where
   sine : Small 1156 (sinOf φ)
   sine = sine-within (angleOf φ) (folded-reach φ (g .finite-φ))
 
-  cosine : (t : Bool) × Ranged t 1014 1158 (cosOf φ)
+  pub cosine : (t : Bool) × Ranged t 1014 1158 (cosOf φ)
   cosine = cosine-within (angleOf φ) (folded-reach φ (g .finite-φ))
 
   -- where sin² is not below 2^-201, nor |m| above 2^200
@@ -65,10 +65,10 @@ module _ (φ m : Float) (g : Given φ m) where
 
   -- so it is where the functions find neither C nor m large
   module _ (l : largeOf m (C φ) ≡ false) where
-    not-tiny : Within 873 1238 (sinOf φ ⊗ sinOf φ)
+    pub not-tiny : Within 873 1238 (sinOf φ ⊗ sinOf φ)
     not-tiny = s2-within (sinOf φ) m sine (g .f64-m) (g .number-m) l
 
-    not-huge : Small 1274 m
+    pub not-huge : Small 1274 m
     not-huge = m-small (sinOf φ) m sine (g .f64-m) (g .number-m) l
 
   -- and where 0 ≤ m ≤ 2^12 and the angle does not stand for its own integral

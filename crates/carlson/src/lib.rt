@@ -35,14 +35,12 @@ pub struct Roots {
 pub fn roots_of(x: f64, y: f64, z: f64) -> Roots
     ensures { λ r. ⌜ r ≡ rootsOf x y z ⌝ }
 {
-    let rx = root::root(x);
-    let ry = root::root(y);
-    let rz = root::root(z);
+    let r = root::three(x, y, z);
     Roots {
-        x: rx,
-        y: ry,
-        z: rz,
-        spread: rx * ry + ry * rz + rz * rx,
+        x: r.x,
+        y: r.y,
+        z: r.z,
+        spread: r.x * r.y + r.y * r.z + r.z * r.x,
     }
 }
 

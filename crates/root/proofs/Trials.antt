@@ -17,7 +17,7 @@ use Rattle.laws.specs.laws.Digits.{leading, moved, size-exact, zeros-ge}
 use Rattle.bits.specs.laws.Packing.{packed-is, no-nan}
 use Rattle.root.specs.Root.{wholeRoot, roundRoot}
 use Rattle.root.specs.laws.Meaning.{IsRoot, square-lt, two-four, whole-root-is, only-root}
-use Rattle.root.specs.Steps.{Tried, Aligned}
+use Rattle.root.specs.Steps.{Tried, Moving, Sized, Aligned}
 
 -- ---- one step
 -- half of 2 ^ 64 - 2s, worked out below 2 ^ 63 and moved back
@@ -47,27 +47,25 @@ square-more q s left = omega arith
 square-same : (q s rest : ℕ) → 8 * (q * q) + 2 * rest * s ≡ 8 * (q * q) + rest * (2 * s)
 square-same q s rest = omega arith
 
-module _ (n s rest next up down down' : ℕ) (t : Tried n (2 * s) rest next up down) (halved : down' + s ≡ 2 ^ 64) where
+pub moves-halved : (s up down down' : ℕ) → Moving (2 * s) up down → down' + s ≡ 2 ^ 64 → Moving s (up / 2 ^ 1) down'
+moves-halved s up down down' v h = let a = v .one in record { one = (omega arith); none = h }
+
+-- 3s fits in a word, so that s is small
+pub small-move : (s up down : ℕ) → Moving (2 * s) up down → up < 2 ^ 64 → s ≤ 2 ^ 62
+small-move s up down v h = let a = v .one in omega arith
+
+module _ (n s rest next : ℕ) (t : Tried n (2 * s) rest next) where
   abbrev q : ℕ
   q = t .root
 
   sizes : (next < 2 ^ 63) × (rest < 2 ^ 63)
   sizes = let a = t .trial in let b = t .small in let c = t .room in (omega arith, omega arith)
 
-  half-up : up / 2 ^ 1 ≡ 3 * s
-  half-up = let a = t .one in omega arith
-
-  none-next : (next + down) % 2 ^ 64 ≡ 8 * q + 2 * s
-  none-next = let a = t .trial in let b = t .none in let c = t .room in omega arith
-
-  one-next : (next + up) % 2 ^ 64 ≡ 8 * (q + s) + 2 * s
-  one-next = let a = t .trial in let b = t .one in let c = t .room in omega arith
-
   double : (x : ℕ) → x < 2 ^ 63 → x * 2 ^ 1 % 2 ^ 64 ≡ 2 * x
   double x h = omega arith
 
-  next-none : rest < next → Tried n s (rest * 2 ^ 1 % 2 ^ 64) ((next + down) % 2 ^ 64) (up / 2 ^ 1) down'
-  next-none h =
+  next-none : (next' : ℕ) → next' ≡ 8 * q + 2 * s → rest < next → Tried n s (rest * 2 ^ 1 % 2 ^ 64) next'
+  next-none next' e h =
       let d = double rest (sizes .1) in
       let a = t .trial in
       let r = t .room in
@@ -75,14 +73,12 @@ module _ (n s rest next up down down' : ℕ) (t : Tried n (2 * s) rest next up d
         root = q;
         sum = ap (λ (x : ℕ). 8 * (q * q) + x * s) d ∙ square-same q s rest ∙ t .sum;
         small = (omega arith);
-        trial = none-next;
-        one = half-up;
-        none = halved;
+        trial = e;
         room = (omega arith);
       }
 
-  next-one : (left : ℕ) → left + next ≡ rest → Tried n s (left * 2 ^ 1 % 2 ^ 64) ((next + up) % 2 ^ 64) (up / 2 ^ 1) down'
-  next-one left h =
+  next-one : (next' left : ℕ) → next' ≡ 8 * (q + s) + 2 * s → left + next ≡ rest → Tried n s (left * 2 ^ 1 % 2 ^ 64) next'
+  next-one next' left e h =
       let z = sizes in
       let d = double left (let y : left < 2 ^ 63 = omega arith in y) in
       let a = t .trial in
@@ -92,60 +88,87 @@ module _ (n s rest next up down down' : ℕ) (t : Tried n (2 * s) rest next up d
         root = q + s;
         sum = ap (λ (x : ℕ). 8 * ((q + s) * (q + s)) + x * s) d ∙ square-more q s left ∙ ap (λ (x : ℕ). 8 * (q * q) + x * (2 * s)) (ap (λ (x : ℕ). left + x) (sym a) ∙ h) ∙ t .sum;
         small = (omega arith);
-        trial = one-next;
-        one = half-up;
-        none = halved;
+        trial = e;
         room = (omega arith);
       }
 
-  chosen : {r r' m m' : ℕ} → r' ≡ r → m' ≡ m → Tried n s (r * 2 ^ 1 % 2 ^ 64) ((next + m) % 2 ^ 64) (up / 2 ^ 1) down'
-      → Tried n s (r' * 2 ^ 1 % 2 ^ 64) ((next + m') % 2 ^ 64) (up / 2 ^ 1) down'
-  chosen {r} {r'} {m} {m'} a b w =
-      subst (λ (x : ℕ). Tried n s (x * 2 ^ 1 % 2 ^ 64) ((next + m') % 2 ^ 64) (up / 2 ^ 1) down') (sym a)
-      (subst (λ (x : ℕ). Tried n s (r * 2 ^ 1 % 2 ^ 64) ((next + x) % 2 ^ 64) (up / 2 ^ 1) down') (sym b) w)
+  chosen : {r r' m m' : ℕ} → r' ≡ r → m' ≡ m → Tried n s (r * 2 ^ 1 % 2 ^ 64) ((next + m) % 2 ^ 64) → Tried n s (r' * 2 ^ 1 % 2 ^ 64) ((next + m') % 2 ^ 64)
+  chosen {r} {r'} {m} {m'} a b w = subst (λ (x : ℕ). Tried n s (x * 2 ^ 1 % 2 ^ 64) ((next + m') % 2 ^ 64)) (sym a) (subst (λ (x : ℕ). Tried n s (r * 2 ^ 1 % 2 ^ 64) ((next + x) % 2 ^ 64)) (sym b) w)
 
-  -- from the code's two choices, both by the borrow
-  pub digit : (left rest' more : ℕ) → left < 2 ^ 64 → (left + next) % 2 ^ 64 ≡ rest
-      → ((left / 2 ^ 63 ≡ 1) × (rest' ≡ rest)) ⊎ ((left / 2 ^ 63 ≡ 1 → ⊥) × (rest' ≡ left))
-      → ((left / 2 ^ 63 ≡ 1) × (more ≡ down)) ⊎ ((left / 2 ^ 63 ≡ 1 → ⊥) × (more ≡ up))
-      → Tried n s (rest' * 2 ^ 1 % 2 ^ 64) ((next + more) % 2 ^ 64) (up / 2 ^ 1) down'
-  digit left rest' more l e (inl c) (inl d) = chosen (c .1) (d .1) (next-none (borrows next rest left (sizes .0) (sizes .1) l e (c .0)))
-  digit left rest' more l e (inr c) (inr d) = chosen (c .1) (d .1) (next-one left (no-borrow next rest left (sizes .0) (sizes .1) l e (c .0)))
-  digit left rest' more l e (inl c) (inr d) = absurd (d .0 (c .0))
-  digit left rest' more l e (inr c) (inl d) = absurd (c .0 (d .0))
+  module _ (up down : ℕ) (v : Moving (2 * s) up down) where
+    none-next : (next + down) % 2 ^ 64 ≡ 8 * q + 2 * s
+    none-next = let a = t .trial in let b = v .none in let c = t .room in omega arith
+
+    one-next : (next + up) % 2 ^ 64 ≡ 8 * (q + s) + 2 * s
+    one-next = let a = t .trial in let b = v .one in let c = t .room in omega arith
+
+    -- from the code's two choices, both by the borrow
+    pub digit : (left rest' more : ℕ) → left < 2 ^ 64 → (left + next) % 2 ^ 64 ≡ rest
+        → ((left / 2 ^ 63 ≡ 1) × (rest' ≡ rest)) ⊎ ((left / 2 ^ 63 ≡ 1 → ⊥) × (rest' ≡ left))
+        → ((left / 2 ^ 63 ≡ 1) × (more ≡ down)) ⊎ ((left / 2 ^ 63 ≡ 1 → ⊥) × (more ≡ up))
+        → Tried n s (rest' * 2 ^ 1 % 2 ^ 64) ((next + more) % 2 ^ 64)
+    digit left rest' more l e (inl c) (inl d) = chosen (c .1) (d .1) (next-none _ none-next (borrows next rest left (sizes .0) (sizes .1) l e (c .0)))
+    digit left rest' more l e (inr c) (inr d) = chosen (c .1) (d .1) (next-one _ left one-next (no-borrow next rest left (sizes .0) (sizes .1) l e (c .0)))
+    digit left rest' more l e (inl c) (inr d) = absurd (d .0 (c .0))
+    digit left rest' more l e (inr c) (inl d) = absurd (c .0 (d .0))
 
 -- ---- the loop: the digit at 2 ^ 53 is 1, and one is found at each place down to 2
-pub first : (m : ℕ) → 2 ^ 55 ≤ m → m < 2 ^ 57 → Tried (m * 2 ^ 54) (2 ^ 53) ((m - 0x80_0000_0000_0000) * 2 ^ 1 % 2 ^ 64) 0x140_0000_0000_0000 0x60_0000_0000_0000 0xffe0_0000_0000_0000
-first m a b = record { root = 2 ^ 53; sum = (omega arith); small = (omega arith); trial = refl; one = refl; none = refl; room = (omega arith) }
+pub first : (m : ℕ) → 2 ^ 55 ≤ m → m < 2 ^ 57 → Tried (m * 2 ^ 54) (2 ^ 53) ((m - 0x80_0000_0000_0000) * 2 ^ 1 % 2 ^ 64) 0x140_0000_0000_0000
+first m a b = record { root = 2 ^ 53; sum = (omega arith); small = (omega arith); trial = refl; room = (omega arith) }
 
-pub place : (i : ℕ) → i < 52 → 2 ^ (53 - i) ≡ 2 * 2 ^ (53 - (i + 1))
-place i h = ap (λ (x : ℕ). 2 ^ x) (let z : 53 - i ≡ suc (53 - (i + 1)) = omega arith in z) ∙ pow-suc 2 (53 - (i + 1)) ∙ mul-comm (2 ^ (53 - (i + 1))) 2
+-- the place of the digit before the next
+abbrev pub place : ℕ → ℕ
+place i = 2 ^ (53 - i)
+
+place-halves : (i : ℕ) → i < 52 → place i ≡ 2 * place (i + 1)
+place-halves i h = ap (λ (x : ℕ). 2 ^ x) (let z : 53 - i ≡ suc (53 - (i + 1)) = omega arith in z) ∙ pow-suc 2 (53 - (i + 1)) ∙ mul-comm (place (i + 1)) 2
+
+last-place : (i : ℕ) → i ≤ 52 → 52 ≤ i → place i ≡ 2
+last-place i a b = ap (λ (x : ℕ). 2 ^ x) (let z : 53 - i ≡ 1 = omega arith in z)
+
+-- what `step`, `halved` and `last_digit` ask for, after i digits
+module _ (i : ℕ) (h : i < 52) where
+  pub tried-above : (n rest next : ℕ) → Tried n (place i) rest next → Tried n (2 * place (i + 1)) rest next
+  tried-above n rest next = subst (λ (s : ℕ). Tried n s rest next) (place-halves i h)
+
+  pub moving-above : (up down : ℕ) → Moving (place i) up down → Moving (2 * place (i + 1)) up down
+  moving-above up down = subst (λ (s : ℕ). Moving s up down) (place-halves i h)
+
+pub tried-last : (i : ℕ) → i ≤ 52 → 52 ≤ i → (n rest next : ℕ) → Tried n (place i) rest next → Tried n 2 rest next
+tried-last i a b n rest next = subst (λ (s : ℕ). Tried n s rest next) (last-place i a b)
+
+-- the count of the digits
+pub count-fits : (i : ℕ) → i < 52 → i + 1 < 2 ^ 64
+count-fits i h = omega arith
+
+pub count-goes : (i : ℕ) → i < 52 → (i + 1 ≤ 52) × (52 - (i + 1) < 52 - i)
+count-goes i h = (omega arith, omega arith)
 
 -- down to 1 it is the whole root
 found : (m q rest : ℕ) → 8 * (q * q) + rest * 1 ≡ m * 2 ^ 54 → rest < 16 * q + 8 * 1 → q ≡ wholeRoot (m * 2 ^ 51)
 found m q rest a b = only-root (m * 2 ^ 51) q (let z : q * q ≤ m * 2 ^ 51 = omega arith in z, let z : m * 2 ^ 51 < (q + 1) * (q + 1) = omega arith in z)
 
 -- and the digit there is 1 where taking the trial away leaves no borrow
-pub last : (m rest next up down left : ℕ) → Tried (m * 2 ^ 54) (2 * 1) rest next up down → left < 2 ^ 64 → (left + next) % 2 ^ 64 ≡ rest → next / 2 ^ 3 + 1 - left / 2 ^ 63 ≡ wholeRoot (m * 2 ^ 51)
+pub last : (m rest next left : ℕ) → Tried (m * 2 ^ 54) (2 * 1) rest next → left < 2 ^ 64 → (left + next) % 2 ^ 64 ≡ rest → next / 2 ^ 3 + 1 - left / 2 ^ 63 ≡ wholeRoot (m * 2 ^ 51)
 unfolding next-none next-one
-last m rest next up down left t l e = go (lt-or-le left (2 ^ 63))
+last m rest next left t l e = go (lt-or-le left (2 ^ 63))
   where
     q : ℕ
     q = t .root
 
     sized : (next < 2 ^ 63) × (rest < 2 ^ 63)
-    sized = sizes (m * 2 ^ 54) 1 rest next up down (2 ^ 64 - 1) t refl
+    sized = sizes (m * 2 ^ 54) 1 rest next t
 
     so-far : next / 2 ^ 3 ≡ q
     so-far = let a = t .trial in omega arith
 
     go : (left < 2 ^ 63) ⊎ (2 ^ 63 ≤ left) → next / 2 ^ 3 + 1 - left / 2 ^ 63 ≡ wholeRoot (m * 2 ^ 51)
     go (inl h) =
-        let w = next-one (m * 2 ^ 54) 1 rest next up down (2 ^ 64 - 1) t refl left (no-borrow next rest left (sized .0) (sized .1) l e (λ x. (let z : ⊥ = omega arith in z))) in
+        let w = next-one (m * 2 ^ 54) 1 rest next t _ left refl (no-borrow next rest left (sized .0) (sized .1) l e (λ x. (let z : ⊥ = omega arith in z))) in
         let s = so-far in
         (let z : next / 2 ^ 3 + 1 - left / 2 ^ 63 ≡ q + 1 = omega arith in z) ∙ found m (q + 1) (left * 2 ^ 1 % 2 ^ 64) (w .sum) (w .small)
     go (inr h) =
-        let w = next-none (m * 2 ^ 54) 1 rest next up down (2 ^ 64 - 1) t refl (borrows next rest left (sized .0) (sized .1) l e (let z : left / 2 ^ 63 ≡ 1 = omega arith in z)) in
+        let w = next-none (m * 2 ^ 54) 1 rest next t _ refl (borrows next rest left (sized .0) (sized .1) l e (let z : left / 2 ^ 63 ≡ 1 = omega arith in z)) in
         let s = so-far in
         (let z : next / 2 ^ 3 + 1 - left / 2 ^ 63 ≡ q = omega arith in z) ∙ found m q (rest * 2 ^ 1 % 2 ^ 64) (w .sum) (w .small)
 
@@ -170,7 +193,7 @@ powers n e b h k q z =
 -- 56 or 57 places, so that what is left of the exponent is even
 aligned-by : (n e b h : ℕ) → e + 1023 ≡ b + 2 * h → 2 ^ 55 ≤ n * 2 ^ b → n * 2 ^ b < 2 ^ 57 → h ≤ 1600 → Aligned n e (n * 2 ^ b % 2 ^ 64) h
 aligned-by n e b h q lo hi k =
-    subst (λ (y : ℕ). Aligned n e y h) (sym (mod-eq-of-lt (lt-of-lt-of-le hi (lit≤ tt)))) (record { same = powers n e b h 1074 q refl; least = lo; most = hi; scale = k })
+    subst (λ (y : ℕ). Aligned n e y h) (sym (mod-eq-of-lt (lt-of-lt-of-le hi (lit≤ tt)))) (record { same = powers n e b h 1074 q refl; sized = record { least = lo; most = hi; scale = k } })
 
 pub full-aligned : (n e : ℕ) → 2 ^ 52 ≤ n → n < 2 ^ 53 → e ≤ 2045 → Aligned n e (n * 2 ^ (3 + bitAnd e 1) % 2 ^ 64) ((e + 1023 - 3) / 2 ^ 1)
 full-aligned n e p s l = go (bitAnd e 1) (and-mask e 1)
@@ -281,7 +304,7 @@ pattern-is half r a b h =
     ap (ofBits binary64) (let z : pattern half r ≡ 0 + (suc half * 2 ^ 52 % 2 ^ 64 + (r + 1) / 2) = omega arith in z)
     ∙ packed-is false 0 ((r + 1) / 2) (suc half) refl (omega arith) (omega arith) (λ g. (let z : 2 ^ 52 ≤ (r + 1) / 2 = omega arith in z))
 
-module _ (sig exp m half r : ℕ) (a : Aligned sig exp m half) (e : r ≡ wholeRoot (m * 2 ^ 51)) where
+module _ (m half r : ℕ) (a : Sized m half) (e : r ≡ wholeRoot (m * 2 ^ 51)) where
   is-root : IsRoot (m * 2 ^ 51) r
   is-root = subst (IsRoot (m * 2 ^ 51)) (sym e) (whole-root-is (m * 2 ^ 51))
 
@@ -294,9 +317,8 @@ module _ (sig exp m half r : ℕ) (a : Aligned sig exp m half) (e : r ≡ wholeR
   pub no-nan-pattern : T (not (nanBits binary64 (pattern half r)))
   no-nan-pattern = no-nan false ((r + 1) / 2) (suc half) (pattern half r) (pattern-is half r (bounds .0) (bounds .1) (a .scale))
 
-  pub root-pattern : ofBits binary64 (pattern half r) ≡ roundRoot (sig * 2 ^ exp * 2 ^ 1074)
+  pub root-pattern : ofBits binary64 (pattern half r) ≡ roundRoot (m * 2 ^ 51 * 4 ^ half)
   root-pattern =
       pattern-is half r (bounds .0) (bounds .1) (a .scale)
       ∙ sym (rounded-root (m * 2 ^ 50) half r (subst (λ (x : ℕ). IsRoot x r) even is-root) (bounds .0) (bounds .1))
       ∙ ap (λ (x : ℕ). roundRoot (x * 4 ^ half)) (sym even)
-      ∙ ap roundRoot (a .same)

@@ -6,7 +6,7 @@ use Rattle.carlson.proofs.roots_of.Tie as tie
 
 returns : tie.Need-returns
 unfolding rootsOf
-returns c = rw (c .before .before .root .ensures, c .before .root2 .ensures, c .root3 .ensures)
+returns c = let e = c .before .before .before .three .ensures in rw (e .0, e .1, e .2)
 
 pub roots-of-spec : {M : Type 1} → statement M
-roots-of-spec = tie.close (tie.spec (λ c κs. search needs) (λ c κs. search needs) (λ c κs. search needs) returns)
+roots-of-spec = tie.close (tie.spec (λ c κs. search needs) returns)

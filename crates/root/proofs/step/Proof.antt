@@ -18,25 +18,16 @@ wrapping-sub-u64-requires c κs = search needs
 wrapping-add-u64-requires : tie.Need-wrapping-add-u64-requires
 wrapping-add-u64-requires c κs = search needs
 
-negative-half-requires : tie.Need-negative-half-requires
-negative-half-requires c κs = search needs
-
-small : (n s rest next up down : ℕ) → Tried n (2 * s) rest next up down → s ≤ 2 ^ 62
-small n s rest next up down t = let r = t .room in omega arith
-
 returns : tie.Need-returns
-returns c n s t =
-    let j = c .before .before .before .before in
+returns c n s t v =
+    let j = c .before .before in
     let w = j .before .before in
     let a = w .before .args in
-    let r = c .before .before .wrapping-add-u64 in
-    let h = c .negative-half .result in
-    let halved = c .negative-half .ensures s (small n s (a .p .rest) (a .p .next) (a .p .up) (a .p .down) t) (t .none) in
     let d =
-    digit n s (a .p .rest) (a .p .next) (a .p .up) (a .p .down) h t halved (w .wrapping-sub-u64 .result) (j .before .if1 .rest) (j .if2 .more) (left-fits w) (w .wrapping-sub-u64 .ensures)
+    digit n s (a .p .rest) (a .p .next) t (a .m .up) (a .m .down) v (w .wrapping-sub-u64 .result) (j .before .if1 .rest) (j .if2 .more) (left-fits w) (w .wrapping-sub-u64 .ensures)
     (⊎-elim (λ x. inl (x .0 .taken, x .1)) (λ x. inr (x .0 .left, x .1)) (j .before .if1 .came))
     (⊎-elim (λ x. inl (x .0 .taken, x .1)) (λ x. inr (x .0 .left, x .1)) (j .if2 .came)) in
-    subst (λ (x : ℕ). Tried n s (j .before .if1 .rest * 2 ^ 1 % 2 ^ 64) x (a .p .up / 2 ^ 1) h) (sym (r .ensures)) d
+    subst (λ (x : ℕ). Tried n s (j .before .if1 .rest * 2 ^ 1 % 2 ^ 64) x) (sym (c .wrapping-add-u64 .ensures)) d
 
 pub step-spec : {M : Type 1} → statement M
-step-spec = tie.close (tie.spec wrapping-sub-u64-requires wrapping-add-u64-requires negative-half-requires returns)
+step-spec = tie.close (tie.spec wrapping-sub-u64-requires wrapping-add-u64-requires returns)

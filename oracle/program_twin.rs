@@ -2,7 +2,7 @@
 //! twin: engine
 use std::io::{Read, Write};
 use std::os::fd::FromRawFd;
-use twin::engine;
+use twin::{engine, outcome};
 
 fn main() {
     let mut line = [0u8; twin::line::LONGEST];
@@ -19,6 +19,6 @@ fn main() {
         st = engine::feed(st, &part[..n], &mut line, &mut sheet);
     }
     st = engine::finish(st, &mut line, &mut sheet);
-    let n = engine::print(st, &sheet, &mut out);
+    let n = outcome::put_text(false, st, &sheet, &mut out);
     std::io::stdout().write_all(&out[..n]).expect("the output can be written");
 }

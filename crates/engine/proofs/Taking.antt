@@ -17,6 +17,7 @@ use Rattle.line.specs.declared.Line.the-variants.{Edit, Malformed}
 use Rattle.ledger.specs.Sheet.{mostRows, sizeFor}
 use Rattle.ledger.specs.Calls.{blankRefusal, blankOf}
 use Rattle.sheet.specs.Edit.{editRefusal, editOf}
+use Rattle.outcome.specs.laws.Parts.{part-taken, part-left}
 use Rattle.engine.specs.Run.{entry}
 use Rattle.engine.specs.Machine.{held, between, onPart, countLine, editLine}
 
@@ -38,20 +39,6 @@ module _ (k : ℕ) (m : List ℕ) {x y : Number} (read : x ≡ y) where
   count-made r q n e h size eq en = rw (← read, e, eq, en, size) (simp (le-ltb mostRows r h, sub-zero))
 
 -- ---- an edit
-
--- no part is longer than the memory
-module _ (m : List ℕ) (size n : ℕ) (least : n ≡ min size (length m)) where
-  pub part-taken : take n m ≡ take size m
-  part-taken =
-      below size (length m)
-      (λ h. let e : n ≡ size = omega arith in rw e refl)
-      (λ h. take-all n m (omega arith) ∙ sym (take-all size m h))
-
-  pub part-left : drop n m ≡ drop size m
-  part-left =
-      below size (length m)
-      (λ h. let e : n ≡ size = omega arith in rw e refl)
-      (λ h. let g : length m ≤ n = omega arith in drop-of-length-le m g ∙ sym (drop-of-length-le m h))
 
 module _ (k size : ℕ) (m : List ℕ) {x y : Line} (read : x ≡ y) where
   pub edit-none : x ≡ Malformed → held (between k size true) m ≡ editLine k size m y

@@ -15,8 +15,9 @@ use Rattle.ledger.specs.Sheet.{sizeFor, mostRows}
 use Rattle.ledger.specs.Calls.{blankRefusal, blankOf}
 use Rattle.sheet.specs.Edit.{editRefusal, editOf}
 use Rattle.page.specs.Page.{largest}
-use Rattle.engine.specs.declared.State.{State}
-use Rattle.engine.specs.Run.{Outcome, Start, Sheet, Bad, zeros, entry}
+use Rattle.outcome.specs.declared.State.{State}
+use Rattle.outcome.specs.Outcome.{Outcome, Start, Sheet, Bad, endedOf}
+use Rattle.engine.specs.Run.{zeros, entry}
 
 -- ---- what a run holds
 
@@ -125,13 +126,7 @@ finishOf w =
     when eqb (w .st .held) 0 && w .st .begun gives w else
     stepOf w 10
 
--- what the lines that were taken have come to
-unfoldable pub endedOf : State → List ℕ → Outcome
-endedOf st m =
-    when st .bad gives Bad (st .lines) else
-    Sheet (take (st .size) m)
-
--- the same, of what a run holds when its input ends
+-- what a run has come to when its input ends
 unfoldable pub outcomeOf : Room → Outcome
 outcomeOf w = endedOf (finishOf w .st) (finishOf w .sheet)
 

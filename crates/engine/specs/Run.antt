@@ -1,6 +1,5 @@
 -- The run as a whole: from the input's bytes to the output's (01, "The program reads standard input"). Definitions only.
 use Prim.Native.Nat.{ℕ, suc}
-use mathlib.Core.Bool.{Bool}
 use mathlib.Core.List.{List, [], _∷_, _++_}
 use lib.ListN.{replicate}
 use lib.Dec.{ltb, eqb}
@@ -14,8 +13,8 @@ use Rattle.ledger.specs.Sheet.{sizeFor, mostRows}
 use Rattle.ledger.specs.Calls.{blankRefusal, blankOf}
 use Rattle.sheet.specs.Edit.{editRefusal, editOf}
 use Rattle.sheet.specs.declared.Entry.{Entry}
-use Rattle.page.specs.Page.{pageOf, badLine}
-use Rattle.rounds.specs.Rounds.{roundsPage}
+use Rattle.page.specs.Page.{pageOf}
+use Rattle.outcome.specs.Outcome.{Outcome, Start, Sheet, Bad, printed}
 
 -- an input that is read in parts
 unfoldable pub joined : List (List ℕ) → List ℕ
@@ -25,12 +24,6 @@ joined (p ∷ ps) = p ++ joined ps
 -- a line end ends a line; bytes after the last line end are a line too
 unfoldable pub linesOf : List ℕ → List (List ℕ)
 linesOf input = cut 10 [] input
-
--- what the lines so far have come to
-pub data Outcome : Type 0 where
-  Start : Outcome
-  Sheet : List ℕ → Outcome
-  Bad : ℕ → Outcome
 
 unfoldable pub zeros : ℕ → List ℕ
 zeros n = replicate n 0
@@ -74,18 +67,6 @@ closed (Bad k) = Bad k
 -- what an input comes to: from Start its line 1 is the row count; from a sheet it is an edit, and no line at all leaves the sheet
 unfoldable pub ranOf : Outcome → List ℕ → Outcome
 ranOf o input = closed (linesOn 1 o (linesOf input))
-
--- the output: the page, or the first bad line alone
-unfoldable pub printed : (List ℕ → List ℕ) → Outcome → List ℕ
-printed page Start = badLine 1
-printed page (Sheet s) = page s
-printed page (Bad k) = badLine k
-
--- which page: the rounds (legrounds), or the rows with their counts and total
-unfoldable pub pageBy : Bool → List ℕ → List ℕ
-pageBy rounds s =
-    when rounds gives roundsPage s else
-    pageOf s
 
 -- the run
 unfoldable pub runOf : List ℕ → List ℕ

@@ -3,26 +3,14 @@ mod lines;
 
 use line::LONGEST;
 use lines::between;
-use lines::least;
 use lines::take_line;
+use outcome::State;
 use page::LARGEST;
-use page::ROOM;
 ghost use mathlib.Core.Path.{_≡_};
 ghost use Prim.Native.Nat.{_≤_};
-ghost use lib.ListN.{length, take};
+ghost use lib.ListN.{length};
 ghost use Rattle.page.specs.Page.{largest};
-ghost use Rattle.engine.specs.Run.{pageBy, printed};
-ghost use Rattle.engine.specs.Machine.{longest, room, startOf, fixingOf, longerOf, endOf, stepOf, feedOf, finishOf, endedOf};
-ghost use Rattle.text.specs.Writing.{Put};
-
-// How many lines were taken, how many bytes of the next are held (84: too many), the sheet's bytes, whether there is a sheet, and whether the last line was bad.
-pub struct State {
-    pub lines: u64,
-    pub held: usize,
-    pub size: usize,
-    pub begun: bool,
-    pub bad: bool,
-}
+ghost use Rattle.engine.specs.Machine.{longest, room, startOf, fixingOf, longerOf, endOf, stepOf, feedOf, finishOf};
 
 // No sheet yet: line 1 is the row count.
 pub fn start() -> State
@@ -131,27 +119,4 @@ pub fn finish(st: State, line: &mut [u8; LONGEST], sheet: &mut [u8; LARGEST]) ->
     ensures { λ r. ⌜ room r (now (line .exit)) (now (sheet .exit)) ≡ finishOf (room st (now (line .entry)) (now (sheet .entry))) ⌝ }
 {
     last(st, line, sheet)
-}
-
-// The sheet's bytes.
-pub fn bytes(st: State, sheet: &[u8; LARGEST]) -> &[u8]
-    ensures { λ r. ⌜ now r ≡ take (st .size) (now (sheet .entry)) ⌝ }
-{
-    let all: &[u8] = sheet;
-    let n = least(st.size, all.len());
-    &all[0..n]
-}
-
-// What is printed in the end, at the start of the buffer: its length.
-pub fn print(st: State, rounds: bool, sheet: &[u8; LARGEST], out: &mut [u8; ROOM]) -> usize
-    ensures { λ r. ⌜ Put (now (out .entry)) (now (out .exit)) 0 r (printed (pageBy rounds) (endedOf st (now (sheet .entry)))) ⌝ }
-    ensures { λ r. ⌜ r ≤ length (now (out .exit)) ⌝ }
-{
-    if st.bad {
-        return page::put_bad(out, st.lines);
-    }
-    if rounds {
-        return rounds::put_rounds(out, bytes(st, sheet));
-    }
-    page::put_page(out, bytes(st, sheet))
 }

@@ -1,26 +1,16 @@
 // One whole line: the row count or an edit, and the call that it asks for.
-use crate::State;
 use ledger::MOST_ROWS;
 use line::Line;
 use line::Number;
+use outcome::State;
+use outcome::least;
 use sheet::Entry;
 ghost use mathlib.Core.Path.{_≡_};
-ghost use Prim.Native.Nat.{min};
 ghost use lib.ListN.{length};
 ghost use Rattle.line.specs.Line.{decimalOf, lineOf};
 ghost use Rattle.page.specs.Page.{largest};
 ghost use Rattle.engine.specs.Machine.{held, countLine, editLine, takeLine};
 ghost use Rattle.engine.specs.Machine.{between as Machine·between};
-
-// A state from elsewhere may hold a size that is past the memory.
-pub(crate) fn least(size: usize, room: usize) -> usize
-    ensures { λ r. ⌜ r ≡ min size room ⌝ }
-{
-    if size < room {
-        return size;
-    }
-    room
-}
 
 // The state where there is a sheet, after line number lines, with nothing of the next one held.
 pub(crate) fn between(lines: u64, size: usize, bad: bool) -> State

@@ -19,7 +19,8 @@ use Rattle.ledger.specs.Calls.{rowsIn, rowIn, countsIn, totalIn, equal, isSheet
 use Rattle.sheet.specs.Edit.{keep, keptOf, answered, rowOf, editRefusal, editOf}
 use Rattle.text.specs.Text.{glyphOf, digitsOf, decimal, pattern}
 use Rattle.page.specs.Page.{answerAt, headText, answersText, rowText, rowLine, rowLines, countFields, countsLine, totalLine, pageOf}
-use Rattle.engine.specs.Run.{linesOf, zeros, countOn, editOn, lineOn, linesOn, closed, ranOf, printed, runOf}
+use Rattle.outcome.specs.Outcome.{printed}
+use Rattle.engine.specs.Run.{linesOf, zeros, countOn, editOn, lineOn, linesOn, closed, ranOf, runOf}
 
 -- 01's four legs; then a leg of length 2 alone, driven three times
 pub worked : (runOf (

@@ -6,7 +6,7 @@ use libc::STDOUT_FILENO;
 fn on_file() {
     let mut name = [0u8; WORD];
     let n = files::word(1, &mut name);
-    runner::fix(b"legfix", STDIN_FILENO, STDOUT_FILENO, &name[0..n]);
+    fixing::fix(b"legfix", STDIN_FILENO, STDOUT_FILENO, &name[0..n]);
 }
 
 fn main() {

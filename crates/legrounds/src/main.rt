@@ -4,7 +4,7 @@ use libc::STDOUT_FILENO;
 
 fn main() {
     if files::word_count() == 1 {
-        runner::run(b"legrounds", STDIN_FILENO, STDOUT_FILENO, true);
+        rounds::run(b"legrounds", STDIN_FILENO, STDOUT_FILENO);
         return;
     }
     files::usage(files::begin(STDOUT_FILENO), b"legrounds");

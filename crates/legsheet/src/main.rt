@@ -12,7 +12,7 @@ fn to_file() {
 fn main() {
     let words = files::word_count();
     if words == 1 {
-        runner::run(b"legsheet", STDIN_FILENO, STDOUT_FILENO, false);
+        runner::run(b"legsheet", STDIN_FILENO, STDOUT_FILENO);
         return;
     }
     if words == 2 {

@@ -1,13 +1,23 @@
-// The page of legrounds: for each row its number, its function, and the rounds that working out its answer makes.
+// The page of legrounds, for each row its number, its function, and the rounds that working out its answer makes; and its run, which is legsheet's but for the page.
+use files::Output;
+use line::LONGEST;
+use outcome::State;
+use page::LARGEST;
 use page::ROOM;
 use page::pattern_at;
 use page::shown;
 use text::put_three;
 ghost use mathlib.Core.Path.{_≡_};
+ghost use mathlib.Core.Bool.{true, false};
+ghost use mathlib.Core.List.{[]};
 ghost use Prim.Native.Nat.{_+_, _≤_, _<_};
 ghost use lib.ListN.{length};
 ghost use Rattle.ledger.specs.Sheet.{mostRows};
 ghost use Rattle.text.specs.Writing.{Put};
+ghost use Rattle.outcome.specs.Outcome.{Start, textOf};
+ghost use Rattle.files.specs.Output.{outputOf, Wrote};
+ghost use Rattle.ending.specs.Ending.{doneText};
+ghost use Rattle.runner.specs.Done.{Done};
 ghost use Rattle.rounds.specs.Rounds.{roundsIn, roundsLine, roundsPage};
 
 // The rounds that working out this row makes.
@@ -48,4 +58,34 @@ pub fn put_rounds(out: &mut [u8; ROOM], sheet: &[u8]) -> usize
         i += 1;
     }
     at
+}
+
+// What is printed in the end, at the start of the buffer: its length.
+fn put_text(failed: bool, st: State, sheet: &[u8; LARGEST], out: &mut [u8; ROOM]) -> usize
+    ensures { λ r. ⌜ Put (now (out .entry)) (now (out .exit)) 0 r (textOf roundsPage failed st (now (sheet .entry))) ⌝ }
+    ensures { λ r. ⌜ r ≤ length (now (out .exit)) ⌝ }
+{
+    if failed | st.bad {
+        return outcome::put_instead(failed, st.lines, out);
+    }
+    put_rounds(out, outcome::bytes(st, sheet))
+}
+
+fn write_text(program: &[u8], output: i32, failed: bool, st: State, sheet: &[u8; LARGEST]) -> Output
+    ensures { λ r. ⌜ Wrote (outputOf output) (doneText roundsPage [] true failed st (now (sheet .entry))) r ⌝ }
+{
+    let mut out = [0u8; ROOM];
+    let n = put_text(failed, st, sheet, &mut out);
+    ending::write_run(program, output, &program[0..0], true, failed, &out[0..n])
+}
+
+// One run, from one descriptor to another.
+pub fn run(program: &[u8], input: i32, output: i32)
+    ensures { λ _. ⌜ Done input output roundsPage false [] Start ⌝ }
+{
+    let mut line = [0u8; LONGEST];
+    let mut sheet = [0u8; LARGEST];
+    let end = runner::take_all(input, engine::start(), &mut line, &mut sheet);
+    let out = write_text(program, output, end.failed, end.st, &sheet);
+    ending::tell_cut(program, out);
 }

@@ -8,20 +8,20 @@ use lib.Dec.{eqb}
 use lib.IntN.{ℤ}
 use lib.ListN.{length, take}
 use borrow.Author.Tests.{not-true, eqb-false}
-use Rattle.engine.specs.declared.State.{State}
+use Rattle.outcome.specs.declared.State.{State}
 use Rattle.ledger.specs.Calls.{isSheet, totalRefusal}
 use Rattle.ledger.specs.laws.Refusals.{sheet-length, sheet-few}
 use Rattle.text.specs.Writing.{Put, Puts}
 use Rattle.text.specs.laws.Writing.{put-length}
 use Rattle.page.specs.Page.{largest}
-use Rattle.engine.specs.Run.{Outcome, Sheet, zeros}
-use Rattle.engine.specs.Machine.{longest, Room, room, fixingOf, finishOf, endedOf, Begins}
+use Rattle.outcome.specs.Outcome.{Sheet, endedOf}
+use Rattle.engine.specs.Run.{zeros}
+use Rattle.engine.specs.Machine.{longest, Room, room, fixingOf, finishOf, Begins}
 use Rattle.text.specs.laws.Writing.{front}
 use Rattle.files.specs.Calls.{read}
-use Rattle.files.specs.Load.{Brought, whole, unread, Load, unopened, opened}
 use Rattle.runner.specs.Reads.{Next, last, go-on, spent, mostReads, OneRead, SomeReads}
 use Rattle.runner.specs.laws.Whole.{all-four}
-use Rattle.runner.specs.Done.{begunOf, allTaken, Ran, SomeRun, saves, Savable}
+use Rattle.runner.specs.Done.{begunOf, allTaken, Took, SomeRun, saves, Savable}
 
 -- the answer as it was, after it was passed on
 pub as-answered : {w v : Room} {got answer : ℤ} {buffer : List ℕ} {more failed : Bool} → got ≡ answer → Next w (read got buffer) v more failed
@@ -45,17 +45,17 @@ none-left input k h =
 
 -- ---- all lines
 
-module _ {input : ℤ} (o : Outcome) (w : Room) (b : Begins o w) {st : State} {line m : List ℕ} where
+module _ {input : ℤ} {w : Room} {st : State} {line m : List ℕ} where
   -- a read failed
-  pub ran-failed : (failed : Bool) → failed ≡ true → SomeReads input mostReads w (room st line m) failed → Ran input o st m failed
+  pub took-failed : (failed : Bool) → failed ≡ true → SomeReads input mostReads w (room st line m) failed → Took input w st m failed
   unfolding allTaken
-  ran-failed failed e r = record { begin = w; begins = b; reads = r .reads; read = room st line m; led = r .led; line = line; end = simp e }
+  took-failed failed e r = record { reads = r .reads; read = room st line m; led = r .led; line = line; end = simp e }
 
   -- the end of the input ends the last line
-  pub ran-all : (failed : Bool) → failed ≡ false → SomeReads input mostReads w (room st line m) failed → (end : State) (line' m' : List ℕ)
-      → room end line' m' ≡ finishOf (room st line m) → Ran input o end m' false
+  pub took-all : (failed : Bool) → failed ≡ false → SomeReads input mostReads w (room st line m) failed → (end : State) (line' m' : List ℕ)
+      → room end line' m' ≡ finishOf (room st line m) → Took input w end m' false
   unfolding allTaken
-  ran-all failed e r end line' m' is = record { begin = w; begins = b; reads = r .reads; read = room st line m; led = rw e at (r .led); line = line'; end = is }
+  took-all failed e r end line' m' is = record { reads = r .reads; read = room st line m; led = rw e at (r .led); line = line'; end = is }
 
 -- ---- what may be saved
 
@@ -90,6 +90,9 @@ module _ (bytes : List ℕ) (q : ℕ) (is : q ≡ totalRefusal bytes) where
   unfolding totalRefusal
   refused-7 e = no-sheet (isSheet bytes) (λ z. e (is ∙ z))
 
+pub never : {A : Type 0} → false ≡ true → A
+never e = let z : _≡_ {A = ℕ} 0 1 = cc in absurd (omega arith)
+
 -- it stands at the front of the memory
 module _ (bytes old new : List ℕ) (b : ℕ) (sheet : isSheet bytes ≡ true) (size : length old ≡ largest) (p : Puts old new 0 b (length bytes) bytes) where
   few : length bytes ≤ largest
@@ -110,11 +113,3 @@ module _ (bytes old new : List ℕ) (b : ℕ) (sheet : isSheet bytes ≡ true) (
   pub fix-begins : Begins (Sheet bytes) (room (fixingOf (length bytes)) (zeros longest) new)
   unfolding zeros
   fix-begins = (refl, refl, record { size = refl; whole = put-length old 0 bytes put (omega (arith, put .next, few)) ∙ size; fits = few; bytes = there })
-
--- a file that was not read brings nothing
-pub load-failed : {name bytes : List ℕ} {ok : Bool} → Load name bytes ok → ok ≡ false → Load name [] false
-load-failed (unopened file c bad) e = unopened file c bad
-load-failed {name} (opened file shut c good b d) e = brought b e where
-  brought : {bytes : List ℕ} {ok : Bool} → Brought file bytes ok → ok ≡ false → Load name [] false
-  brought (whole rs f is) e = let z : _≡_ {A = ℕ} 0 1 = cc in absurd (omega arith)
-  brought (unread rs f) e = opened file shut c good (unread rs f) d

@@ -7,17 +7,14 @@ use lib.Dec.{eqb}
 use lib.IntN.{ℤ}
 use lib.ListN.{take}
 use Rattle.laws.specs.Ladder.{when_gives_else_}
-use Rattle.ledger.specs.Calls.{isSheet}
-use Rattle.page.specs.Page.{failedLine}
-use Rattle.engine.specs.declared.State.{State}
-use Rattle.engine.specs.Run.{Outcome, Start, Sheet, pageBy, printed}
-use Rattle.engine.specs.Machine.{longest, Room, room, finishOf, endedOf, Begins}
+use Rattle.outcome.specs.declared.State.{State}
+use Rattle.outcome.specs.Outcome.{Outcome, Start, Sheet, endedOf}
+use Rattle.engine.specs.Machine.{Room, room, finishOf, Begins}
 use Rattle.files.specs.declared.sending.Output.{Output}
 use Rattle.files.specs.Calls.{Read}
-use Rattle.files.specs.Load.{Load}
 use Rattle.files.specs.Save.{Save}
 use Rattle.files.specs.Output.{outputOf, Wrote}
-use Rattle.files.specs.Notes.{cannotRead, cannotWrite, refused7}
+use Rattle.ending.specs.Ending.{doneText}
 use Rattle.runner.specs.Reads.{Reads, mostReads}
 
 -- ---- what was read
@@ -34,15 +31,19 @@ allTaken failed w =
     when failed gives w else
     finishOf w
 
--- the reads of the input that were made, from where a run from o begins, come to the state st and the memory m; whether the last one failed
+-- the reads of the input that were made, from w on, come to the state st and the memory m; whether the last one failed
+pub record Took (input : ℤ) (w : Room) (st : State) (m : List ℕ) (failed : Bool) : Type 0 where
+  pub reads : List Read
+  pub read : Room
+  pub led : Reads input mostReads w reads read failed
+  pub line : List ℕ
+  pub end : room st line m ≡ allTaken failed read
+
+-- so they do from where a run from o begins
 pub record Ran (input : ℤ) (o : Outcome) (st : State) (m : List ℕ) (failed : Bool) : Type 0 where
   pub begin : Room
   pub begins : Begins o begin
-  pub reads : List Read
-  pub read : Room
-  pub led : Reads input mostReads begin reads read failed
-  pub line : List ℕ
-  pub end : room st line m ≡ allTaken failed read
+  pub took : Took input begin st m failed
 
 -- some run does
 pub record SomeRun (st : State) (m : List ℕ) (failed : Bool) : Type 0 where
@@ -69,22 +70,10 @@ pub data Keep (filed : Bool) (name : List ℕ) (failed : Bool) (st : State) (m :
   none : saves filed failed st ≡ false → Keep filed name failed st m true
   kept : {ok : Bool} → saves filed failed st ≡ true → Save name (take (st .size) m) ok → Keep filed name failed st m ok
 
--- ---- what was written
-
--- the run's output, by one page or the other; where a read failed, that alone
-unfoldable pub textOf : Bool → Bool → State → List ℕ → List ℕ
-textOf rounds failed st m =
-    when failed gives failedLine (st .lines) else
-    printed (pageBy rounds) (endedOf st m)
-
--- where the sheet could not be saved, that alone
-unfoldable pub doneText : Bool → List ℕ → Bool → Bool → State → List ℕ → List ℕ
-doneText rounds name ok failed st m =
-    when not ok gives cannotWrite name else
-    textOf rounds failed st m
+-- ---- the whole
 
 -- a whole run from o, by one page or the other, with a file of this name or without: what it read, what it kept, and the text that it wrote
-pub record Done (input output : ℤ) (rounds filed : Bool) (name : List ℕ) (o : Outcome) : Type 0 where
+pub record Done (input output : ℤ) (page : List ℕ → List ℕ) (filed : Bool) (name : List ℕ) (o : Outcome) : Type 0 where
   pub st : State
   pub m : List ℕ
   pub failed : Bool
@@ -92,12 +81,4 @@ pub record Done (input output : ℤ) (rounds filed : Bool) (name : List ℕ) (o 
   pub ok : Bool
   pub keeps : Keep filed name failed st m ok
   pub last : Output
-  pub wrote : Wrote (outputOf output) (doneText rounds name ok failed st m) last
-
--- ---- on a file that is there
-
--- the file can't be read; it is no sheet; or a whole run from its sheet
-pub data Fixed (input output : ℤ) (name : List ℕ) : Type 0 where
-  unread : (last : Output) → Load name [] false → Wrote (outputOf output) (cannotRead name) last → Fixed input output name
-  unfit : (bytes : List ℕ) (last : Output) → Load name bytes true → isSheet bytes ≡ false → Wrote (outputOf output) refused7 last → Fixed input output name
-  fixed : (bytes : List ℕ) → Load name bytes true → isSheet bytes ≡ true → Done input output false true name (Sheet bytes) → Fixed input output name
+  pub wrote : Wrote (outputOf output) (doneText page name ok failed st m) last

@@ -6,7 +6,8 @@ use lib.Dec.{ltb, eqb}
 use lib.ListN.{length}
 use Rattle.laws.specs.Ladder.{when_gives_else_}
 use Rattle.page.specs.Page.{failedLine}
-use Rattle.engine.specs.Run.{Outcome, Start, Sheet, Bad, linesOf, ranOf, pageBy, printed}
+use Rattle.outcome.specs.Outcome.{Outcome, Start, Sheet, Bad, printed}
+use Rattle.engine.specs.Run.{linesOf, ranOf}
 
 -- how many whole lines these are
 unfoldable pub lineEnds : List ℕ → ℕ
@@ -16,10 +17,10 @@ lineEnds (b ∷ bs) =
     lineEnds bs
 
 -- where a read failed, `input failed after line k` and nothing of the sheet; else what the input comes to, from o on (engine, Run)
-unfoldable pub writtenOf : Bool → Outcome → Bool → List ℕ → List ℕ
-writtenOf rounds o failed input =
+unfoldable pub writtenOf : (List ℕ → List ℕ) → Outcome → Bool → List ℕ → List ℕ
+writtenOf page o failed input =
     when failed gives failedLine (lineEnds input) else
-    printed (pageBy rounds) (ranOf o input)
+    printed page (ranOf o input)
 
 -- a sheet, and no bad line
 abbrev pub sheetIn : Outcome → Bool

@@ -1,17 +1,16 @@
 // The whole input, taken line by line.
-use engine::State;
 use line::LONGEST;
+use outcome::State;
 use page::LARGEST;
 ghost use mathlib.Core.Path.{_≡_};
 ghost use Prim.Native.Nat.{suc, _<_};
-ghost use Rattle.engine.specs.Run.{zeros};
-ghost use Rattle.engine.specs.Machine.{longest, room, Begins};
+ghost use Rattle.engine.specs.Machine.{room};
 ghost use Rattle.files.specs.Calls.{read};
 ghost use Rattle.runner.specs.Reads.{Next, mostReads, OneRead, SomeReads};
-ghost use Rattle.runner.specs.Done.{begunOf, Ran};
+ghost use Rattle.runner.specs.Done.{Took};
 
 // What the reads so far came to, whether there may be more, and whether the last one failed.
-pub(crate) struct Turn {
+pub struct Turn {
     pub st: State,
     pub more: bool,
     pub failed: bool,
@@ -75,14 +74,13 @@ fn read_all(input: i32, from: State, line: &mut [u8; LONGEST], sheet: &mut [u8; 
 }
 
 // All of its lines, the last one too. A failed read is not the end of the input, and ends no line.
-pub(crate) fn take_all(
+pub fn take_all(
     input: i32,
     from: State,
     line: &mut [u8; LONGEST],
     sheet: &mut [u8; LARGEST],
 ) -> Turn
-    requires { ⌜ Begins (begunOf from (now sheet)) (room from (now line) (now sheet)) ⌝ }
-    ensures { λ r. ⌜ Ran input (begunOf from (now (sheet .entry))) (r .st) (now (sheet .exit)) (r .failed) ⌝ }
+    ensures { λ r. ⌜ Took input (room from (now (line .entry)) (now (sheet .entry))) (r .st) (now (sheet .exit)) (r .failed) ⌝ }
 {
     let turn = read_all(input, from, line, sheet);
     if turn.failed {

@@ -20,9 +20,10 @@ use Rattle.ledger.specs.Sheet.{sizeFor}
 use Rattle.ledger.specs.Calls.{blankRefusal, blankOf}
 use Rattle.sheet.specs.Edit.{editRefusal, editOf}
 use Rattle.page.specs.Page.{largest}
-use Rattle.engine.specs.declared.State.{State}
-use Rattle.engine.specs.Run.{Outcome, Start, Sheet, Bad, zeros, countOn, entry, editOn, lineOn, closed}
-use Rattle.engine.specs.Machine.{longest, Held, Room, held, room, between, onPart, lineNumber, countLine, editLine, takeLine, longerOf, stepOf, endedOf, Stored, Begins}
+use Rattle.outcome.specs.declared.State.{State}
+use Rattle.outcome.specs.Outcome.{Outcome, Start, Sheet, Bad, endedOf}
+use Rattle.engine.specs.Run.{zeros, countOn, entry, editOn, lineOn, closed}
+use Rattle.engine.specs.Machine.{longest, Held, Room, held, room, between, onPart, lineNumber, countLine, editLine, takeLine, longerOf, stepOf, Stored, Begins}
 use Rattle.engine.specs.laws.Steps.{step-idle, step-end, end-long, end-taken, step-over, step-more}
 use Rattle.engine.specs.laws.Lengths.{length-zeros, length-blank, length-edit}
 

@@ -1,16 +1,17 @@
 -- THE PROGRAM'S LAW. Whatever the input, however the reads cut it into parts, and whether a run begins with no sheet or with one: what it comes to is `ranOf` of the
 -- whole input (Run.antt), which is 01's "The program reads standard input". `startOf`, `fixingOf`, `feedOf`, `finishOf` and `endedOf` are the definitions that the
--- contracts of the calls `start`, `fixing`, `feed`, `finish` and `print` cite, so this speaks of what the code does between a read and a write. What is printed, and
+-- contracts of the calls `start`, `fixing`, `feed`, `finish` and of `outcome` cite, so this speaks of what the code does between a read and a write. What is printed, and
 -- what is saved, follow from what a run comes to. Assumes nothing.
 use mathlib.Core.Path.{_≡_, refl, sym, ap, _∙_}
 use Prim.Native.Nat.{ℕ, _+_, _^_, _<_}
-use mathlib.Core.Bool.{true}
+use mathlib.Core.Bool.{true, false}
 use mathlib.Core.List.{List, [], _∷_, _++_}
 use lib.ListN.{length, take}
 use Rattle.text.specs.Writing.{Put}
 use Rattle.text.specs.laws.Writing.{front}
-use Rattle.engine.specs.Run.{joined, Outcome, ranOf, printed}
-use Rattle.engine.specs.Machine.{Room, feedOf, feedAll, finishOf, endedOf, outcomeOf, Begins}
+use Rattle.outcome.specs.Outcome.{Outcome, endedOf, printed, textOf}
+use Rattle.engine.specs.Run.{joined, ranOf}
+use Rattle.engine.specs.Machine.{Room, feedOf, feedAll, finishOf, outcomeOf, Begins}
 use Rattle.engine.specs.laws.Whole.{run-law, stop-law}
 
 module _ (o : Outcome) (w : Room) (b : Begins o w) (parts : List (List ℕ)) where
@@ -42,14 +43,14 @@ fed-all (more {ps = ps} e f) = fed-all f ∙ ap (λ (v : Room). feedAll v ps) e
 pub fed-law : (o : Outcome) {parts : List (List ℕ)} {w v : Room} → Begins o w → length (joined parts) < 2 ^ 64 → Fed w parts v → outcomeOf v ≡ ranOf o (joined parts)
 fed-law o {parts = parts} {w = w} b few feeds = ap outcomeOf (fed-all feeds) ∙ run-law o w b parts few
 
--- so the text that print put at the start of its buffer is the run's
+-- so the text that was put at the start of a buffer, where no read failed, is the run's
 pub calls-law : (o : Outcome) (page : List ℕ → List ℕ) {parts : List (List ℕ)} {w v end : Room} {old new : List ℕ} {n : ℕ}
     → length (joined parts) < 2 ^ 64
     → Begins o w
     → Fed w parts v
     → end ≡ finishOf v
-    → Put old new 0 n (printed page (endedOf (end .st) (end .sheet)))
+    → Put old new 0 n (textOf page false (end .st) (end .sheet))
     → take n new ≡ printed page (ranOf o (joined parts))
-unfolding outcomeOf
+unfolding outcomeOf textOf
 calls-law o page few b feeds finish print =
     front print ∙ ap (λ (u : Room). printed page (endedOf (u .st) (u .sheet))) finish ∙ ap (printed page) (fed-law o b few feeds)

@@ -9,7 +9,7 @@ use mathlib.Core.List.{List}
 use lib.ListN.{length, take, drop, getD, set, drop-of-length-le}
 use lib.Seq.{drop-cons, set-out}
 use borrow.Author.Tests.{lt-ltb, le-ltb, eq-eqb, ne-eqb}
-use Rattle.engine.specs.declared.State.{State}
+use Rattle.outcome.specs.declared.State.{State}
 use Rattle.engine.specs.Machine.{longest, Held, Room, held, room, between, lineNumber, takeLine, longerOf, endOf, joinOf, stepOf, feedOf}
 
 -- a line end

@@ -11,7 +11,8 @@ use lib.Dec.{eqb}
 use borrow.Author.Tests.{eq-eqb, ne-eqb, eqb-true, eqb-false}
 use Rattle.line.specs.Line.{decimalOf, onto, cut}
 use Rattle.line.specs.laws.Long.{below}
-use Rattle.engine.specs.Run.{joined, Outcome, Start, Sheet, Bad, countOn, lineOn, linesOn, linesOf, closed, ranOf}
+use Rattle.outcome.specs.Outcome.{Outcome, Start, Sheet, Bad}
+use Rattle.engine.specs.Run.{joined, countOn, lineOn, linesOn, linesOf, closed, ranOf}
 use Rattle.engine.specs.Machine.{longest, Room, stepOf, feedOf, feedAll, finishOf, outcomeOf, Begins}
 use Rattle.engine.specs.laws.Steps.{step-idle}
 use Rattle.engine.specs.laws.Holding.{Holds, begins, ended, more, comes-to}

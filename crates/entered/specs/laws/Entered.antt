@@ -15,7 +15,8 @@ use Rattle.demands.specs.Edits.{Edit, answer, after, run, answerIn, accepted, f
 use Rattle.demands.specs.Demand3.{demand-3}
 use Rattle.text.specs.Text.{decimal}
 use Rattle.page.specs.Page.{pageOf, badLine}
-use Rattle.engine.specs.Run.{Outcome, Start, Sheet, Bad, zeros, countOn, editOn, lineOn, linesOn, linesOf, closed, ranOf, printed, runOf}
+use Rattle.outcome.specs.Outcome.{Outcome, Start, Sheet, Bad, printed}
+use Rattle.engine.specs.Run.{zeros, countOn, editOn, lineOn, linesOn, linesOf, closed, ranOf, runOf}
 use Rattle.entered.specs.Input.{textOf, editLines, sheetText, AllFit, Fits, refusedLine}
 use Rattle.engine.specs.laws.Lengths.{length-zeros}
 use Rattle.engine.specs.laws.Whole.{lines-bad}

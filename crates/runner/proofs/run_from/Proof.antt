@@ -2,24 +2,28 @@
 use mir.Syntax.{w32}
 use mir.ValLaws.{toZ-ofZ}
 use Rattle.engine.specs.Run.{zeros}
+use Rattle.runner.specs.Done.{begunOf}
 use borrow.Author.Needs.{needs}
 use Rattle.runner.proofs.run_from.Statement.{statement}
 use Rattle.runner.proofs.run_from.Tie as tie
 
 take-all-requires : tie.Need-take-all-requires
-unfolding zeros
-take-all-requires c κs = c .before .before .before .before .pre
+take-all-requires c κs = search needs
 
 keep-requires : tie.Need-keep-requires
-keep-requires c κs = search needs
+unfolding zeros
+keep-requires c κs =
+    let s = c .before .before .before .before .before .before in
+    record { input = _; from = begunOf (s .args .st) (s .args .sheet .now); ran = record { begin = _; begins = s .pre; took = c .before .take-all .ensures } }
 
-write-run-requires : tie.Need-write-run-requires
-write-run-requires c κs = search needs
+write-page-requires : tie.Need-write-page-requires
+write-page-requires c κs = search needs
 
 tell-cut-requires : tie.Need-tell-cut-requires
 tell-cut-requires c κs = search needs
 
 returns : tie.Need-returns
+unfolding zeros
 returns c =
     let s = c .before .before .before .before .before .before .before .before .before .before in
     let all = c .before .before .before .before .before .take-all in
@@ -29,12 +33,12 @@ returns c =
       st = all .result .st;
       m = all .last .1 .1 .1 .0;
       failed = all .result .failed;
-      ran = rw input at (all .ensures);
+      ran = record { begin = _; begins = s .pre; took = rw input at (all .ensures) };
       ok = c .before .before .before .keep .result;
       keeps = c .before .before .before .keep .ensures;
-      last = c .before .write-run .result;
-      wrote = rw output at (c .before .write-run .ensures);
+      last = c .before .write-page .result;
+      wrote = rw output at (c .before .write-page .ensures);
     }
 
 pub run-from-spec : {M : Type 1} → statement M
-run-from-spec = tie.close (tie.spec take-all-requires keep-requires write-run-requires tell-cut-requires returns)
+run-from-spec = tie.close (tie.spec take-all-requires keep-requires write-page-requires tell-cut-requires returns)

@@ -13,15 +13,16 @@ use lib.Dec.{ltb, eqb}
 use borrow.Author.Tests.{ltb-true, not-true, lt-ltb, ne-eqb}
 use Rattle.io.specs.Counts.{clamped}
 use Rattle.page.specs.Page.{failedLine}
-use Rattle.engine.specs.declared.State.{State}
-use Rattle.engine.specs.Run.{joined, Outcome, Start, Sheet, Bad, linesOf, ranOf, pageBy, printed}
-use Rattle.engine.specs.Machine.{Room, room, feedOf, feedAll, finishOf, endedOf, outcomeOf, Begins}
+use Rattle.outcome.specs.declared.State.{State}
+use Rattle.outcome.specs.Outcome.{Outcome, Start, Sheet, Bad, endedOf, printed, textOf}
+use Rattle.engine.specs.Run.{joined, linesOf, ranOf}
+use Rattle.engine.specs.Machine.{Room, room, feedOf, feedAll, finishOf, outcomeOf, Begins}
 use Rattle.engine.specs.laws.Law.{program-law, stopped-law}
 use Rattle.engine.specs.laws.Whole.{taken-law}
 use Rattle.files.specs.Calls.{Read}
 use Rattle.files.specs.Reads.{broughtOf, failedOf, inputOf}
 use Rattle.runner.specs.Reads.{goesOn, Next, Reads, last, go-on, spent}
-use Rattle.runner.specs.Done.{allTaken, Ran, saves, textOf}
+use Rattle.runner.specs.Done.{allTaken, Ran, saves}
 use Rattle.runner.specs.Program.{lineEnds, writtenOf, sheetIn, savedOf}
 use Rattle.runner.specs.laws.Lines.{counted}
 
@@ -113,7 +114,7 @@ failed-lines {w = w} (go-on {r = r} {rs = rs} c l rest) e good few =
 -- a run of fewer than 2^64 bytes
 module _ {input : ℤ} (o : Outcome) {st : State} {m : List ℕ} {failed : Bool} (r : Ran input o st m failed) where
   abbrev pub bytes : List ℕ
-  bytes = inputOf (r .reads)
+  bytes = inputOf (r .took .reads)
 
   start-good : (b : Outcome) (w : Room) → Begins b w → (w .st .bad ≡ false) × (w .st .lines ≡ 0)
   start-good Start w b = (ap (λ (s : State). s .bad) (b .1), ap (λ (s : State). s .lines) (b .1))
@@ -125,54 +126,54 @@ module _ {input : ℤ} (o : Outcome) {st : State} {m : List ℕ} {failed : Bool}
   unfolding allTaken
   failed-after e few =
       let from = start-good o (r .begin) (r .begins) in
-      let at-end = failed-lines (r .led) e (from .0) (omega (arith, from .1)) in
-      let same : room st (r .line) m ≡ r .read = r .end ∙ simp e in (
+      let at-end = failed-lines (r .took .led) e (from .0) (omega (arith, from .1)) in
+      let same : room st (r .took .line) m ≡ r .took .read = r .took .end ∙ simp e in (
         ap (λ (w : Room). w .st .bad) same ∙ at-end .0,
         ap (λ (w : Room). w .st .lines) same ∙ at-end .1 ∙ omega (arith, from .1),
       )
 
-  ended-as : failed ≡ false → endedOf st m ≡ outcomeOf (feedAll (r .begin) (parts (r .reads)))
+  ended-as : failed ≡ false → endedOf st m ≡ outcomeOf (feedAll (r .begin) (parts (r .took .reads)))
   unfolding allTaken outcomeOf
   ended-as e =
-      let same : room st (r .line) m ≡ finishOf (r .read) = r .end ∙ simp e in
-      ap (λ (w : Room). endedOf (w .st) (w .sheet)) (same ∙ ap finishOf (fed (r .led)))
+      let same : room st (r .took .line) m ≡ finishOf (r .took .read) = r .took .end ∙ simp e in
+      ap (λ (w : Room). endedOf (w .st) (w .sheet)) (same ∙ ap finishOf (fed (r .took .led)))
 
   -- else it came to what the input comes to
   pub ran-law : failed ≡ false → length bytes < 2 ^ 64 → endedOf st m ≡ ranOf o bytes
   unfolding outcomeOf
   ran-law e few =
-      let all = joined-parts (r .reads) in
-      ended-as e ∙ program-law o (r .begin) (r .begins) (parts (r .reads)) (rw all few) ∙ ap (ranOf o) all
+      let all = joined-parts (r .took .reads) in
+      ended-as e ∙ program-law o (r .begin) (r .begins) (parts (r .took .reads)) (rw all few) ∙ ap (ranOf o) all
 
   -- by as many lines as the input has, where none was bad
   pub ran-lines : failed ≡ false → st .bad ≡ false → length bytes < 2 ^ 64 → st .lines ≡ length (linesOf bytes)
   unfolding allTaken
   ran-lines e good few =
-      let all = joined-parts (r .reads) in
-      let same : room st (r .line) m ≡ finishOf (feedAll (r .begin) (parts (r .reads))) = r .end ∙ simp e (ap finishOf (fed (r .led))) in
+      let all = joined-parts (r .took .reads) in
+      let same : room st (r .took .line) m ≡ finishOf (feedAll (r .begin) (parts (r .took .reads))) = r .took .end ∙ simp e (ap finishOf (fed (r .took .led))) in
       ap (λ (w : Room). w .st .lines) same
-      ∙ taken-law o (r .begin) (r .begins) (parts (r .reads)) (rw all few) (ap (λ (w : Room). w .st .bad) (sym same) ∙ good)
+      ∙ taken-law o (r .begin) (r .begins) (parts (r .took .reads)) (rw all few) (ap (λ (w : Room). w .st .bad) (sym same) ∙ good)
       ∙ ap (λ (s : List ℕ). length (linesOf s)) all
 
   -- and where a line was bad, what is left unread does not matter
-  pub unread-law : (rest : List ℕ) → r .read .st .bad ≡ true → failed ≡ false → length (bytes ++ rest) < 2 ^ 64 → endedOf st m ≡ ranOf o (bytes ++ rest)
+  pub unread-law : (rest : List ℕ) → r .took .read .st .bad ≡ true → failed ≡ false → length (bytes ++ rest) < 2 ^ 64 → endedOf st m ≡ ranOf o (bytes ++ rest)
   unfolding outcomeOf
   unread-law rest bad e few =
-      let all = joined-parts (r .reads) in
-      let was = ap (λ (u : Room). u .st .bad) (sym (fed (r .led))) ∙ bad in
-      ended-as e ∙ stopped-law o (r .begin) (r .begins) (parts (r .reads)) rest (rw all few) was ∙ ap (λ (s : List ℕ). ranOf o (s ++ rest)) all
+      let all = joined-parts (r .took .reads) in
+      let was = ap (λ (u : Room). u .st .bad) (sym (fed (r .took .led))) ∙ bad in
+      ended-as e ∙ stopped-law o (r .begin) (r .begins) (parts (r .took .reads)) rest (rw all few) was ∙ ap (λ (s : List ℕ). ranOf o (s ++ rest)) all
 
   -- the text is that of the input
-  pub whole-law : (rounds : Bool) → length bytes < 2 ^ 64 → textOf rounds failed st m ≡ writtenOf rounds o failed bytes
+  pub whole-law : (page : List ℕ → List ℕ) → length bytes < 2 ^ 64 → textOf page failed st m ≡ writtenOf page o failed bytes
   unfolding textOf writtenOf
-  whole-law rounds few = by failed refl where
-    by : (t : Bool) → failed ≡ t → cond t (failedLine (st .lines)) (printed (pageBy rounds) (endedOf st m)) ≡ cond t (failedLine (lineEnds bytes)) (printed (pageBy rounds) (ranOf o bytes))
+  whole-law page few = by failed refl where
+    by : (t : Bool) → failed ≡ t → cond t (failedLine (st .lines)) (printed page (endedOf st m)) ≡ cond t (failedLine (lineEnds bytes)) (printed page (ranOf o bytes))
     by true e = ap failedLine (failed-after e few .1)
-    by false e = ap (printed (pageBy rounds)) (ran-law e few)
+    by false e = ap (printed page) (ran-law e few)
 
 -- what was saved is the sheet that the input comes to, from its end
 pub saved-law : {input : ℤ} (o : Outcome) {st : State} {m : List ℕ} {failed : Bool} (r : Ran input o st m failed) (filed : Bool) → saves filed failed st ≡ true
-    → length (inputOf (r .reads)) < 2 ^ 64 → ranOf o (inputOf (r .reads)) ≡ Sheet (take (st .size) m)
+    → length (inputOf (r .took .reads)) < 2 ^ 64 → ranOf o (inputOf (r .took .reads)) ≡ Sheet (take (st .size) m)
 unfolding saves endedOf
 saved-law o {st} {m} {failed} r filed e few =
     let all = all-four filed (not failed) (not (st .bad)) (not (eqb (st .lines) 0)) e in
@@ -185,11 +186,11 @@ none-or-some zero = refl
 none-or-some (suc n) = simp (ne-eqb (suc n) 0 (λ z. omega arith), lt-ltb 0 (suc n) (omega arith))
 
 pub saves-law : {input : ℤ} (o : Outcome) {st : State} {m : List ℕ} {failed : Bool} (r : Ran input o st m failed) (filed : Bool)
-    → length (inputOf (r .reads)) < 2 ^ 64 → saves filed failed st ≡ savedOf filed o failed (inputOf (r .reads))
+    → length (inputOf (r .took .reads)) < 2 ^ 64 → saves filed failed st ≡ savedOf filed o failed (inputOf (r .took .reads))
 unfolding saves savedOf endedOf
 saves-law o {st} {m} {failed} r filed few = ap (λ (t : Bool). filed && t) (by failed refl) where
   input : List ℕ
-  input = inputOf (r .reads)
+  input = inputOf (r .took .reads)
 
   good : failed ≡ false → (t : Bool) → st .bad ≡ t → (not t && not (eqb (st .lines) 0)) ≡ (sheetIn (ranOf o input) && ltb 0 (length (linesOf input)))
   good e true bad = rw (← ran-law o r e few) (simp bad)

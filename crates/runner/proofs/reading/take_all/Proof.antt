@@ -1,9 +1,7 @@
 -- A read failed, or the end of the input ends its last line.
 use mir.Syntax.{w32}
 use mir.ValLaws.{toZ-ofZ}
-use Rattle.engine.specs.Machine.{room}
-use Rattle.runner.specs.Done.{begunOf}
-use Rattle.runner.proofs.Runs.{ran-failed, ran-all}
+use Rattle.runner.proofs.Runs.{took-failed, took-all}
 use borrow.Author.Needs.{needs}
 use Rattle.runner.proofs.reading.take_all.Statement.{statement}
 use Rattle.runner.proofs.reading.take_all.Tie as tie
@@ -16,7 +14,7 @@ returns c =
     let s = c .before .before .before .before in
     let all = c .before .read-all in
     let input = toZ-ofZ w32 (s .args .input) (s .fits .input) in
-    ran-failed (begunOf (s .args .from) (s .args .sheet .now)) (room (s .args .from) (s .args .line .now) (s .args .sheet .now)) (s .pre) (all .result .failed) (c .if1 .taken) (rw input at (all .ensures))
+    took-failed (all .result .failed) (c .if1 .taken) (rw input at (all .ensures))
 
 finish-requires : tie.Need-finish-requires
 finish-requires c κs = search needs
@@ -26,8 +24,7 @@ returns-2 c =
     let s = c .before .before .before .before .before .before .before in
     let all = c .before .before .before .before .read-all in
     let input = toZ-ofZ w32 (s .args .input) (s .fits .input) in
-    ran-all (begunOf (s .args .from) (s .args .sheet .now)) (room (s .args .from) (s .args .line .now) (s .args .sheet .now)) (s .pre) (all .result .failed) (c .before .before .before .if1 .left) (rw input at (all .ensures))
-    (c .finish .result) (c .finish .last .1 .0) (c .finish .last .1 .1 .0) (c .finish .ensures)
+    took-all (all .result .failed) (c .before .before .before .if1 .left) (rw input at (all .ensures)) (c .finish .result) (c .finish .last .1 .0) (c .finish .last .1 .1 .0) (c .finish .ensures)
 
 pub take-all-spec : {M : Type 1} → statement M
 take-all-spec = tie.close (tie.spec read-all-requires returns finish-requires returns-2)

@@ -9,10 +9,12 @@ use lib.Dec.{eqb}
 use lib.ListN.{length, take, drop, set, length-drop, take-append-drop}
 use lib.Seq.{sets-eq, take-at, drop-at, drop-drop, length-take-le}
 use borrow.Rule.Slice.PartMut.{putMid}
-use Rattle.ledger.specs.Bytes.{bytes, splice}
+use Rattle.laws.specs.Splice.{splice}
+use Rattle.ledger.specs.Bytes.{bytes}
 use Rattle.ledger.specs.Sheet.{Row, mostRows, rowPlace, functionIn}
 use Rattle.ledger.specs.Calls.{Sized, rowsIn, rowIn}
-use Rattle.ledger.specs.laws.Fields.{take-past, drop-past, length-bytes, length-splice}
+use Rattle.laws.specs.laws.Splices.{take-past, drop-past, length-splice}
+use Rattle.ledger.specs.laws.Fields.{length-bytes}
 use Rattle.ledger.proofs.Words.{put-back}
 use Rattle.ledger.specs.laws.Refusals.{sheet-of-few, sheet-of-length}
 use Rattle.conversion.specs.declared.Stop.{Stop}

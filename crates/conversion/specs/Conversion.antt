@@ -5,7 +5,8 @@ use mathlib.Core.List.{List, _++_}
 use lib.Dec.{ltb, eqb}
 use lib.ListN.{take, drop}
 use Rattle.laws.specs.Ladder.{when_gives_else_}
-use Rattle.ledger.specs.Bytes.{bytes, splice}
+use Rattle.laws.specs.Splice.{splice}
+use Rattle.ledger.specs.Bytes.{bytes}
 use Rattle.ledger.specs.Sheet.{Row, withoutTimes, withTimes, blankClass, finiteClass, plus∞Class, minus∞Class, refusedClass, functionIn}
 use Rattle.ledger.specs.Calls.{rowsIn, isSheetOf, soundRow, firstFrom, classIn, timesOf, countOf}
 use Rattle.conversion.specs.declared.Stop.{Stop}

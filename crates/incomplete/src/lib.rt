@@ -1,11 +1,8 @@
-// What ellippi, ellipeinc and ellipf share: the complete integrals, sine and cosine as numbers in a formula, and the period reduction of ellipeinc.rs and ellipf.rs.
-use answer::Parameter;
+// What ellippi, ellipeinc and ellipf share: sine and cosine as numbers in a formula, and the period reduction of ellipeinc.rs and ellipf.rs.
 ghost use mathlib.Core.Path.{_≡_};
 ghost use Rattle.answer.specs.Answer.{valueOf};
 ghost use Rattle.angle.specs.Sine.{sineOf};
 ghost use Rattle.angle.specs.Cosine.{cosineOf};
-ghost use Rattle.legendre.specs.Ellipk.{ellipkOf};
-ghost use Rattle.legendre.specs.Ellipe.{ellipeOf};
 ghost use Rattle.incomplete.specs.Period.{foldedOf};
 ghost use Rattle.incomplete.specs.Scaling.{largeOf};
 
@@ -23,19 +20,7 @@ pub const SCALE: f64 = 1.3407807929942597e154;
 
 pub const ROOT_OF_SCALE: f64 = 1.157920892373162e77;
 
-// K, E, sine and cosine as a formula goes on with them: NaN for a refusal, the file's `unwrap_or(nan!())`.
-pub fn complete_k(m: f64) -> f64
-    ensures { λ r. ⌜ r ≡ valueOf (ellipkOf m) ⌝ }
-{
-    answer::value(legendre::ellipk(Parameter(m)))
-}
-
-pub fn complete_e(m: f64) -> f64
-    ensures { λ r. ⌜ r ≡ valueOf (ellipeOf m) ⌝ }
-{
-    answer::value(legendre::ellipe(Parameter(m)))
-}
-
+// Sine and cosine as a formula goes on with them: NaN for a refusal, the file's `unwrap_or(nan!())`.
 pub fn sine(x: f64) -> f64
     ensures { λ r. ⌜ r ≡ valueOf (sineOf x) ⌝ }
 {

@@ -1,4 +1,4 @@
--- Laws of whole numbers, tests and IEEE 754 arithmetic that the kit lacks.
+-- Laws of whole numbers, tests, lists and IEEE 754 arithmetic that the kit lacks.
 pub mod Flags
 pub mod Compare
 pub mod Digits
@@ -11,3 +11,4 @@ pub mod Operations
 pub mod Sizes
 pub mod Units
 pub mod Bounds
+pub mod Splices

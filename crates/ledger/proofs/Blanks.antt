@@ -9,9 +9,11 @@ use lib.ListN.{length, take, drop, replicate, length-replicate, replicate-append
 use lib.Seq.{take-at, drop-at}
 use lib.Ieee.{ofBits}
 use Rattle.total.specs.Total.{N, complement, negative, sizeOf}
-use Rattle.ledger.specs.Bytes.{bytes, number, fields, splice}
+use Rattle.laws.specs.Splice.{splice}
+use Rattle.ledger.specs.Bytes.{bytes, number, fields}
 use Rattle.ledger.specs.Sheet.{Row, withTimes, rowPlace, sizeFor, entries, blankRow, functionIn, timesIn, classOf, valueOf, sizeIn, unitsIn, totals, count, counts, sum, flat, encode}
-use Rattle.ledger.specs.laws.Fields.{take-past, drop-past, length-bytes, length-fields}
+use Rattle.laws.specs.laws.Splices.{take-past, drop-past}
+use Rattle.ledger.specs.laws.Fields.{length-bytes, length-fields}
 
 class-blank : classOf blankRow ≡ 0
 unfolding classOf functionIn

@@ -6,10 +6,11 @@ use native.Mathlib.Omega.{arith}
 use lib.ListN.{length, take, drop, getD, length-append, length-drop}
 use lib.Seq.{drop-drop, take-at, drop-at, length-take-le}
 use Rattle.total.specs.Total.{limbsOf}
-use Rattle.ledger.specs.Bytes.{number, fields, read, splice}
+use Rattle.laws.specs.Splice.{splice}
+use Rattle.ledger.specs.Bytes.{number, fields, read}
 use Rattle.ledger.specs.Sheet.{rowPlace, sizeFor, mostRows, classOf, retotal, totals}
 use Rattle.ledger.specs.Calls.{Sized, rowsIn, rowIn, countsIn, totalIn, recount, plus, revised, edited}
-use Rattle.ledger.specs.laws.Fields.{drop-past, length-splice}
+use Rattle.laws.specs.laws.Splices.{drop-past, length-splice}
 use Rattle.ledger.specs.laws.Refusals.{class-lt, Undamaged}
 use Rattle.ledger.proofs.Counts.{limbs-bytes}
 

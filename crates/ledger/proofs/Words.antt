@@ -9,8 +9,10 @@ use lib.ListN.{length, take, drop, getD, set, length-append, length-drop, drop-o
 use lib.Pow.{field, mod-mod-pow}
 use lib.Seq.{drop-cons, sets-eq, take-add, take-suc, take-all, drop-drop, take-at, length-take-le}
 use borrow.Rule.Slice.PartMut.{putMid, post-is}
-use Rattle.ledger.specs.Bytes.{bytes, number, fields, splice}
-use Rattle.ledger.specs.laws.Fields.{drop-past, length-bytes, length-fields, fields-append}
+use Rattle.laws.specs.Splice.{splice}
+use Rattle.ledger.specs.Bytes.{bytes, number, fields}
+use Rattle.laws.specs.laws.Splices.{drop-past}
+use Rattle.ledger.specs.laws.Fields.{length-bytes, length-fields, fields-append}
 
 -- ---- reads
 pub number-two : (l : List ℕ) (at : ℕ) → at + 2 ≤ length l → number (take 2 (drop at l)) ≡ getD l at 0 + 256 * getD l (at + 1) 0

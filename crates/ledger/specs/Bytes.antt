@@ -1,7 +1,7 @@
 -- Numbers in bytes, least byte first. Definitions only.
 use Prim.Native.Nat.{ℕ, zero, suc, _+_, _*_, _/_, _%_}
 use mathlib.Core.List.{List, [], _∷_, _++_}
-use lib.ListN.{length, take, drop}
+use lib.ListN.{take, drop}
 
 -- the k lowest bytes of n
 unfoldable pub bytes : ℕ → ℕ → List ℕ
@@ -22,7 +22,3 @@ fields w (x ∷ xs) = bytes w x ++ fields w xs
 unfoldable pub read : ℕ → ℕ → List ℕ → List ℕ
 read w zero s = []
 read w (suc n) s = number (take w s) ∷ read w n (drop w s)
-
--- s with the bytes x from place a on
-abbrev pub splice : List ℕ → ℕ → List ℕ → List ℕ
-splice s a x = take a s ++ (x ++ drop (a + length x) s)

@@ -10,7 +10,8 @@ use Rattle.laws.specs.Arithmetic.{+0}
 use Rattle.laws.specs.Ladder.{when_gives_else_}
 use Rattle.answer.specs.Numbers.{last}
 use Rattle.total.specs.Total.{roundTotal}
-use Rattle.ledger.specs.Bytes.{number, read, splice}
+use Rattle.laws.specs.Splice.{splice}
+use Rattle.ledger.specs.Bytes.{number, read}
 use Rattle.ledger.specs.Sheet.{Row, withdrawn, withoutTimes, withTimes, entries, sizeFor, mostRows, rowPlace, blankRow, functionIn, timesIn, noClass, classOf, valueOf, sound, retotal, totals, encode}
 
 -- ---- what stands in bytes that may be a sheet

@@ -2,7 +2,8 @@
 ghost use mathlib.Core.Path.{_≡_};
 ghost use Prim.Native.Nat.{_+_, _*_, _%_, _≤_, _<_};
 ghost use lib.ListN.{length, take, drop, replicate};
-ghost use Rattle.ledger.specs.Bytes.{bytes, number, fields, splice};
+ghost use Rattle.laws.specs.Splice.{splice};
+ghost use Rattle.ledger.specs.Bytes.{bytes, number, fields};
 
 fn wide(x: u8) -> u32
     ensures { λ r. ⌜ (r ≡ x) × (r < 256) ⌝ }

@@ -9,7 +9,8 @@ ghost use Prim.Native.Nat.{_+_, _≤_};
 ghost use lib.ListN.{length};
 ghost use lib.Dec.{eqb};
 ghost use Rattle.laws.specs.Ladder.{when_gives_else_};
-ghost use Rattle.ledger.specs.Bytes.{fields, splice};
+ghost use Rattle.laws.specs.Splice.{splice};
+ghost use Rattle.ledger.specs.Bytes.{fields};
 ghost use Rattle.ledger.specs.Calls.{rowIn, Shared};
 ghost use Rattle.ledger.specs.Sheet.{rowPlace, functionIn, refusalIn, timesIn, firstIn, kindOf, soundOf, sound};
 

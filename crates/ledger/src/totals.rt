@@ -11,7 +11,8 @@ ghost use Prim.Native.Nat.{_+_, _*_, _≤_, _<_};
 ghost use lib.ListN.{length, getD};
 ghost use mathlib.Core.List.{[], _∷_, _++_};
 ghost use Rattle.total.specs.Total.{val, limbsOf, addOf, takeOf};
-ghost use Rattle.ledger.specs.Bytes.{number, fields, splice};
+ghost use Rattle.laws.specs.Splice.{splice};
+ghost use Rattle.ledger.specs.Bytes.{number, fields};
 ghost use Rattle.ledger.specs.Sheet.{Row, mostRows, rowPlace};
 ghost use Rattle.ledger.specs.Calls.{Sized, rowsIn, countsIn, totalIn, Shared, plus, recount, revised};
 

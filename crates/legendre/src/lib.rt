@@ -10,6 +10,7 @@ use crate::ke::pair;
 use answer::Answer;
 use answer::Parameter;
 ghost use mathlib.Core.Path.{_≡_};
+ghost use Rattle.answer.specs.Answer.{valueOf};
 ghost use Rattle.legendre.specs.Ellipk.{kUncheckedOf, ellipkOf};
 ghost use Rattle.legendre.specs.Ellipe.{ellipeOf};
 ghost use Rattle.legendre.specs.Ellipke.{ellipkeOf};
@@ -105,4 +106,17 @@ pub fn ellipke(m: Parameter) -> Answer
         return pair(both_negative(m));
     }
     pair(both_below_one(m))
+}
+
+// K(m) and E(m) as a formula goes on with them: NaN for a refusal, the file's `unwrap_or(nan!())`.
+pub fn complete_k(m: f64) -> f64
+    ensures { λ r. ⌜ r ≡ valueOf (ellipkOf m) ⌝ }
+{
+    answer::value(ellipk(Parameter(m)))
+}
+
+pub fn complete_e(m: f64) -> f64
+    ensures { λ r. ⌜ r ≡ valueOf (ellipeOf m) ⌝ }
+{
+    answer::value(ellipe(Parameter(m)))
 }

@@ -3,7 +3,7 @@ use mathlib.Core.Path.{_≡_}
 use Prim.Native.Nat.{ℕ, _+_, _≤_, _<_}
 use mathlib.Core.List.{List}
 use lib.ListN.{length}
-use Rattle.ledger.specs.Bytes.{splice}
+use Rattle.laws.specs.Splice.{splice}
 
 -- the buffer old became new: text stands from place a to place b, and every other byte is as it was
 pub record Put (old new : List ℕ) (a b : ℕ) (text : List ℕ) : Type 0 where

@@ -5,7 +5,8 @@ use Prim.Native.Nat.{ℕ, _/_, _%_, _≤_, _<_}
 use native.Mathlib.Omega.{arith}
 use lib.ListN.{length, set, length-set}
 use lib.Seq.{sets-eq}
-use Rattle.ledger.specs.Bytes.{bytes, splice}
+use Rattle.laws.specs.Splice.{splice}
+use Rattle.ledger.specs.Bytes.{bytes}
 use borrow.Author.Needs.{needs}
 use Rattle.conversion.proofs.say.Statement.{statement}
 use Rattle.conversion.proofs.say.Tie as tie

@@ -8,7 +8,8 @@ use lib.Dec.{eqb}
 use lib.ListN.{length, getD}
 use Rattle.ledger.specs.Bytes.{bytes, number}
 use Rattle.ledger.specs.Sheet.{Row, functionIn, refusalIn, timesIn, firstIn, soundOf, sound, classOf, valueOf}
-use Rattle.ledger.specs.laws.Fields.{length-bytes, length-splice, number-bytes}
+use Rattle.laws.specs.laws.Splices.{length-splice}
+use Rattle.ledger.specs.laws.Fields.{length-bytes, number-bytes}
 use Rattle.conversion.specs.Conversion.{once, driven, turned}
 
 -- what holds of every row of at least four bytes

@@ -15,7 +15,8 @@ use Rattle.total.specs.Total.{N, negative, sizeOf, complement, unitsOf}
 use Rattle.ledger.specs.Bytes.{bytes, number, fields}
 use Rattle.ledger.specs.Sheet.{Row, withTimes, withoutTimes, mostRows, entries, functionIn, timesIn, classOf, valueOf, sizeIn, unitsIn, totals, count, counts, sum, flat, encode}
 use Rattle.ledger.specs.Calls.{rowsIn, rowIn, countsIn, isSheet, plus}
-use Rattle.ledger.specs.laws.Fields.{drop-past, length-bytes, length-fields}
+use Rattle.laws.specs.laws.Splices.{drop-past}
+use Rattle.ledger.specs.laws.Fields.{length-bytes, length-fields}
 use Rattle.ledger.specs.laws.Refusals.{sheet-with-times, undamaged}
 use Rattle.sheet.specs.declared.Entry.{Entry}
 use Rattle.sheet.specs.Edit.{rowOf}

@@ -13,7 +13,8 @@ use lib.Ieee.{Float, nan, inf, fin}
 use Rattle.ledger.specs.Bytes.{bytes, number, read}
 use Rattle.ledger.specs.Sheet.{Row, withoutTimes, withTimes, mostRows, rowPlace, sizeFor, entries, functionIn, refusalIn, timesIn, firstIn, kindOf, sound, classOf}
 use Rattle.ledger.specs.Calls.{Sized, rowsIn, rowIn, countsIn, equal, isSheetOf, isSheet, rowRefusal, totalRefusal, soundRow, classIn, timesOf, countOf}
-use Rattle.ledger.specs.laws.Fields.{drop-past, length-bytes, number-bytes}
+use Rattle.laws.specs.laws.Splices.{drop-past}
+use Rattle.ledger.specs.laws.Fields.{length-bytes, number-bytes}
 use Rattle.ledger.specs.laws.Refusals.{rows-of, sheet-of-few, sheet-of-length, says}
 use Rattle.conversion.specs.declared.Stop.{Stop}
 use Rattle.conversion.specs.Conversion.{saysBefore, saysAfter, once, turned, turnedRows, turnedSheet, rejected, uncounted, oftener, stopped, stopOf, convertedOf}

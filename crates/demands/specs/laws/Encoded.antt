@@ -12,11 +12,13 @@ use lib.Seq.{take-at, drop-at, take-all}
 use Rattle.answer.specs.Numbers.{last}
 use Rattle.total.specs.Total.{N}
 use Rattle.total.specs.laws.Limbs.{N-pos}
-use Rattle.ledger.specs.Bytes.{bytes, number, fields, read, splice}
+use Rattle.laws.specs.Splice.{splice}
+use Rattle.ledger.specs.Bytes.{bytes, number, fields, read}
 use Rattle.ledger.specs.Sheet.{Row, withTimes, withoutTimes, rowPlace, sizeFor, entries, classOf, totals, count, counts, sum, flat, encode}
 use Rattle.ledger.specs.Calls.{rowsIn, rowIn, countsIn, totalIn, equal, isSheetOf, isSheet, miscounted, damaged, functionRungs, rungs, totalRefusal, revised, edited}
 use Rattle.sheet.specs.Edit.{editRefusal}
-use Rattle.ledger.specs.laws.Fields.{take-past, drop-past, length-bytes, length-fields, number-bytes, read-fields, fields-append}
+use Rattle.laws.specs.laws.Splices.{take-past, drop-past}
+use Rattle.ledger.specs.laws.Fields.{length-bytes, length-fields, number-bytes, read-fields, fields-append}
 use Rattle.ledger.specs.laws.Refusals.{rows-of, class-lt, length-totals}
 use Rattle.demands.specs.Edits.{Edit, answer, answerIn}
 use Rattle.demands.specs.laws.Rows.{Good, Rows, rows-set, rows-sound, length-flat, row-flat, splice-flat}

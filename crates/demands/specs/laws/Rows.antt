@@ -8,7 +8,7 @@ use native.Mathlib.Omega.{arith}
 use lib.ListN.{length, take, drop, getD, set, length-append}
 use lib.Seq.{take-at, drop-at}
 use Rattle.ledger.specs.Sheet.{Row, flat, timesIn, sound}
-use Rattle.ledger.specs.laws.Fields.{take-past, drop-past}
+use Rattle.laws.specs.laws.Splices.{take-past, drop-past}
 
 -- 48 bytes that are not damaged, with times of two bytes
 pub record Good (w : Row) : Type 0 where

@@ -9,11 +9,11 @@ use borrow.Author.Tests.{eqb-true}
 use lib.Dec.{eqb}
 use lib.ListN.{length, take, drop, getD, length-append, List·getD-append}
 use lib.Seq.{getD-take, getD-drop, getD-append-add, length-take-le}
-use Rattle.ledger.specs.Bytes.{splice}
+use Rattle.laws.specs.Splice.{splice}
 use Rattle.ledger.specs.Sheet.{Row, withTimes, rowPlace, classOf}
 use Rattle.ledger.specs.Calls.{rowsIn, rowIn, countsIn, revised, edited}
 use Rattle.sheet.specs.Edit.{editRefusal, editOf}
-use Rattle.ledger.specs.laws.Fields.{length-splice}
+use Rattle.laws.specs.laws.Splices.{length-splice}
 use Rattle.ledger.specs.laws.Refusals.{Accepted, sheet-of-length, length-counts, length-recount, length-totals}
 use Rattle.sheet.specs.laws.Placed.{edit-accepted}
 use Rattle.sheet.specs.laws.Stored.{length-rowOf}

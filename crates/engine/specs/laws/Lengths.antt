@@ -7,10 +7,12 @@ use mathlib.Core.List.{List, _++_}
 use lib.ListN.{length, replicate, length-append, length-replicate}
 use lib.Dec.{eqb}
 use borrow.Author.Tests.{eqb-true}
-use Rattle.ledger.specs.Bytes.{fields, splice}
+use Rattle.laws.specs.Splice.{splice}
+use Rattle.ledger.specs.Bytes.{fields}
 use Rattle.ledger.specs.Sheet.{Row, withTimes, entries, rowPlace, sizeFor, blankRow, classOf, totals, counts, flat, encode}
 use Rattle.ledger.specs.Calls.{rowsIn, rowIn, countsIn, blankRefusal, blankOf, revised, edited}
-use Rattle.ledger.specs.laws.Fields.{length-fields, length-splice}
+use Rattle.laws.specs.laws.Splices.{length-splice}
+use Rattle.ledger.specs.laws.Fields.{length-fields}
 use Rattle.ledger.specs.laws.Refusals.{Accepted, sheet-of-length, makeable, length-counts, length-recount, length-totals}
 use Rattle.sheet.specs.declared.Entry.{Entry}
 use Rattle.sheet.specs.Edit.{rowOf, editRefusal, editOf}

@@ -3,7 +3,8 @@ use mathlib.Core.Path.{_≡_, ap, _∙_, sym}
 use mathlib.Core.List.{List}
 use Prim.Native.Nat.{ℕ, _*_}
 use lib.ListN.{length, replicate}
-use Rattle.ledger.specs.Bytes.{bytes, splice}
+use Rattle.laws.specs.Splice.{splice}
+use Rattle.ledger.specs.Bytes.{bytes}
 use Rattle.ledger.specs.Sheet.{rowPlace, sizeFor}
 use Rattle.ledger.specs.laws.Fields.{length-fields}
 use Rattle.ledger.proofs.Words.{put-mid}

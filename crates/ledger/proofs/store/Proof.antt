@@ -3,7 +3,8 @@ use mathlib.Core.Path.{_≡_, ap, _∙_}
 use mathlib.Core.List.{List}
 use Prim.Native.Nat.{ℕ}
 use lib.ListN.{length}
-use Rattle.ledger.specs.Bytes.{fields, splice}
+use Rattle.laws.specs.Splice.{splice}
+use Rattle.ledger.specs.Bytes.{fields}
 use Rattle.ledger.specs.Sheet.{rowPlace, timesIn, classOf, valueOf}
 use Rattle.ledger.specs.Calls.{rowsIn, rowIn, revised}
 use Rattle.ledger.specs.laws.Refusals.{undamaged}

@@ -1,19 +1,12 @@
--- Laws of numbers in bytes: what is written is read back, and how writes lie beside each other. Assumes nothing.
+-- Laws of numbers in bytes: what is written is read back, and two parts are the first and then the second. Assumes nothing.
 use mathlib.Core.Path.{_≡_, refl, ap, _∙_, sym}
-use mathlib.Core.List.{List, [], _∷_, _++_, append-assoc, append-nil}
-use Prim.Native.Nat.{ℕ, zero, suc, _+_, _*_, _/_, _^_, _<_, _≤_}
-use native.Mathlib.Nat.{mod-add-div, div-lt-iff-lt-mul, mul-suc, mul-zero, add-comm, zero-add, pow-suc, mul-comm, mul-assoc}
+use mathlib.Core.List.{List, [], _∷_, _++_, append-assoc}
+use Prim.Native.Nat.{ℕ, zero, suc, _+_, _*_, _/_, _^_, _<_}
+use native.Mathlib.Nat.{mod-add-div, div-lt-iff-lt-mul, mul-suc, mul-zero, add-comm, pow-suc, mul-comm, mul-assoc}
 use native.Mathlib.Omega.{arith}
-use lib.ListN.{length, take, drop, getD, length-append, length-take, length-drop, drop-of-length-le}
-use lib.Seq.{take-at, drop-at, take-append-add, drop-append-add, drop-drop, length-take-le}
-use Rattle.ledger.specs.Bytes.{bytes, number, fields, read, splice}
-
--- ---- past a part whose length is known
-pub take-past : (p q : List ℕ) (m n : ℕ) → length p ≡ m → take (m + n) (p ++ q) ≡ p ++ take n q
-take-past p q m n e = rw (← e) (take-append-add p q n)
-
-pub drop-past : (p q : List ℕ) (m n : ℕ) → length p ≡ m → drop (m + n) (p ++ q) ≡ drop n q
-drop-past p q m n e = rw (← e) (drop-append-add p q n)
+use lib.ListN.{length, drop, getD, length-append}
+use lib.Seq.{take-at, drop-at}
+use Rattle.ledger.specs.Bytes.{bytes, number, fields, read}
 
 -- ---- lengths
 pub length-bytes : (k n : ℕ) → length (bytes k n) ≡ k
@@ -30,9 +23,6 @@ pub length-read : (w n : ℕ) (s : List ℕ) → length (read w n s) ≡ n
 unfolding read
 length-read w zero s = refl
 length-read w (suc n) s = ap suc (length-read w n (drop w s))
-
-pub length-splice : (l : List ℕ) (at : ℕ) (x : List ℕ) → at + length x ≤ length l → length (splice l at x) ≡ length l
-length-splice l at x h = simp (length-append, length-drop, length-take) (omega arith)
 
 -- ---- what is written is read back
 pub number-bytes : (k n : ℕ) → n < 256 ^ k → number (bytes k n) ≡ n
@@ -66,20 +56,4 @@ number-append [] q = omega arith
 number-append (b ∷ p) q =
     rw (number-append p q, pow-suc 256 (length p), mul-comm (256 ^ length p) 256, mul-assoc 256 (256 ^ length p) (number q)) (omega arith)
 
-pub splice-two : (l : List ℕ) (at : ℕ) (x y : List ℕ) (n : ℕ) → length x ≡ n → at + n + length y ≤ length l
-    → splice (splice l at x) (at + n) y ≡ splice l at (x ++ y)
-splice-two l at x y n e h =
-    let P = take at l in
-    let R = drop (at + length x) l in
-    let t : length (take at l) ≡ at = length-take-le at l (omega arith) in
-    let p : length (take at l ++ x) ≡ at + n = simp length-append (omega arith) in
-    let a : P ++ (x ++ R) ≡ (P ++ x) ++ R = sym (append-assoc P x R) in
-    let k : take (at + n) (P ++ (x ++ R)) ≡ P ++ x = rw a (take-at (P ++ x) R (at + n) p) in
-    let d : drop (at + n + length y) (P ++ (x ++ R)) ≡ drop (at + length x + length y) l =
-    rw a (drop-past (P ++ x) R (at + n) (length y) p ∙ drop-drop (length y) (at + length x) l) in
-    let f : at + length (x ++ y) ≡ at + length x + length y = simp length-append (omega arith) in
-    rw (k, d, f) (simp append-assoc)
-
 -- all of a list written anew
-pub splice-all : (l x : List ℕ) → length x ≡ length l → splice l 0 x ≡ x
-splice-all l x e = rw (zero-add (length x), drop-of-length-le l {i = length x} (omega arith), append-nil)

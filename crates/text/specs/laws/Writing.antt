@@ -7,7 +7,7 @@ use native.Mathlib.Omega.{arith}
 use mathlib.Core.List.{List, [], _∷_, _++_}
 use lib.ListN.{length, take, drop, set, getD, length-append, take-append-drop}
 use lib.Seq.{set-split, take-suc, take-at}
-use Rattle.ledger.specs.laws.Fields.{splice-two, length-splice}
+use Rattle.laws.specs.laws.Splices.{splice-two, length-splice}
 use Rattle.text.specs.Writing.{Put, Puts}
 
 pub put-none : (s : List ℕ) (a : ℕ) → Put s s a a []

@@ -2,7 +2,8 @@
 use mathlib.Core.Path.{_∙_}
 use native.Mathlib.Omega.{arith}
 use Rattle.ledger.specs.Bytes.{bytes}
-use Rattle.ledger.specs.laws.Fields.{length-bytes, splice-two}
+use Rattle.laws.specs.laws.Splices.{splice-two}
+use Rattle.ledger.specs.laws.Fields.{length-bytes}
 use Rattle.ledger.proofs.Words.{bytes-eight}
 use borrow.Author.Needs.{needs}
 use Rattle.ledger.proofs.bytes.put_u64.Statement.{statement}

@@ -2,7 +2,7 @@
 use mathlib.Core.Path.{_≡_, ap, _∙_}
 use mathlib.Core.List.{List}
 use lib.ListN.{length}
-use Rattle.ledger.specs.Bytes.{splice}
+use Rattle.laws.specs.Splice.{splice}
 use Rattle.ledger.specs.Sheet.{rowPlace}
 use Rattle.ledger.specs.laws.Rows.{length-words}
 use Rattle.ledger.proofs.Words.{put-back}

@@ -5,7 +5,8 @@ use Prim.Native.Nat.{_+_, _-_, _<_}
 use native.Mathlib.Omega.{arith}
 use lib.ListN.{length}
 use Rattle.total.specs.Total.{limbsOf, addOf, takeOf}
-use Rattle.ledger.specs.Bytes.{fields, splice}
+use Rattle.laws.specs.Splice.{splice}
+use Rattle.ledger.specs.Bytes.{fields}
 use Rattle.ledger.specs.Sheet.{timesIn, classOf, retotal}
 use Rattle.ledger.specs.Calls.{countsIn, totalIn, recount, revised}
 use Rattle.ledger.specs.laws.Refusals.{length-counts, length-recount, length-totals}

@@ -5,8 +5,9 @@ use Prim.Native.Nat.{ℕ, _+_, _*_}
 use native.Mathlib.Omega.{arith}
 use borrow.Rule.Slice.PartMut.{putMid}
 use lib.ListN.{length, length-append}
-use Rattle.ledger.specs.Bytes.{splice}
-use Rattle.ledger.specs.laws.Fields.{length-fields, splice-two, splice-all}
+use Rattle.laws.specs.Splice.{splice}
+use Rattle.laws.specs.laws.Splices.{splice-two, splice-all}
+use Rattle.ledger.specs.laws.Fields.{length-fields}
 use Rattle.ledger.proofs.Words.{put-mid}
 use borrow.Author.Needs.{needs}
 use Rattle.ledger.proofs.bytes.put_words.Reads as put-words-reads

@@ -1,7 +1,7 @@
 -- The body is the definition, each call replaced by what it ensures.
 use borrow.Author.Needs.{needs}
-use Rattle.incomplete.proofs.complete_k.Statement.{statement}
-use Rattle.incomplete.proofs.complete_k.Tie as tie
+use Rattle.legendre.proofs.complete_k.Statement.{statement}
+use Rattle.legendre.proofs.complete_k.Tie as tie
 
 returns : tie.Need-returns
 returns c = rw (c .value .ensures, c .before .ellipk .ensures)

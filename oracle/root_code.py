@@ -1,7 +1,8 @@
 #!/usr/bin/env python3
 """oracle/root_code.py [ARCHIVE]: looks at the root as written and as compiled (docs/changes/04-root.md).
 In crates/root/src no `*`, `/` or `%` stands outside comments and contracts. In ARCHIVE (target/staticlib/libshuttlemint.a, which
-`rt staticlib shuttlemint` writes) the root has no multiplication, no division, no call, and one loop with no branch in it.
+`rt staticlib shuttlemint` writes) the root has no multiplication, no division, no call, and one loop with no branch in it. The
+loop of three roots at once, in whatever function it was put, has none of these either, and touches no memory.
 It needs objdump. Its last line says what it saw; it ends with status 1 where a rule is broken."""
 import re
 import subprocess
@@ -53,8 +54,29 @@ def functions(archive):
     return found
 
 
-def check_compiled(archive):
-    code = functions(archive)
+def check_three(code):
+    """Three roots at once are a part of what calls them. Their loop is known by what a digit costs: a subtraction and two choices for each."""
+    held = []
+    for name, body in code.items():
+        for last, (at, what, operands, to) in enumerate(body):
+            if not what.startswith("j") or to or operands.startswith("*"):
+                continue
+            begin = int(operands.split()[0], 16)
+            loop = [step for step in body[:last] if begin <= step[0]]
+            kinds = [kind for _, kind, *_ in loop]
+            if begin > at or any(kind.startswith(("j", "ret")) for kind in kinds):
+                continue
+            if kinds.count("sub") == 3 and sum(kind.startswith("cmov") for kind in kinds) == 6:
+                for place, kind, told, _ in loop:
+                    if FORBIDDEN.match(kind) or "(" in told:
+                        fail(f"{name}+{place:#x}, in the loop of three: {kind} {told}")
+                held.append((name, len(loop) + 1))
+    if not held:
+        fail("no loop of three roots without a branch on a digit")
+    return ", ".join(f"{name}, {count} instructions a digit" for name, count in held)
+
+
+def check_root(code, archive):
     if "sm_root" not in code:
         fail(f"{archive} has no sm_root")
     # In the library the face calls root::root, which other functions call too; where none does it is a part of sm_root.
@@ -92,5 +114,8 @@ def check_compiled(archive):
 
 
 check_source()
-name, count, size = check_compiled(sys.argv[1] if len(sys.argv) > 1 else str(HERE.parent / "target/staticlib/libshuttlemint.a"))
-print(f"the root's code: no multiplication, no division, no call, no branch on a digit ({name}: {count} instructions, about {size} bytes)")
+archive = sys.argv[1] if len(sys.argv) > 1 else str(HERE.parent / "target/staticlib/libshuttlemint.a")
+code = functions(archive)
+name, count, size = check_root(code, archive)
+three = check_three(code)
+print(f"the root's code: no multiplication, no division, no call, no branch on a digit ({name}: {count} instructions, about {size} bytes; three at once: {three})")

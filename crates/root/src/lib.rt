@@ -232,7 +232,7 @@ pub struct ThreeRoots {
     pub z: f64,
 }
 
-// The roots of three numbers in about half the time that they take one after the other.
+// The roots of three numbers, which take less time together than one after the other.
 pub fn three(x: f64, y: f64, z: f64) -> ThreeRoots
     ensures { λ r. ⌜ (r.x ≡ rootOf x) × (r.y ≡ rootOf y) × (r.z ≡ rootOf z) ⌝ }
 {

@@ -1,5 +1,5 @@
 -- `digits` meets its contract: after i steps the root is found down to the place 2 ^ (53 - i), and the last digit comes after them (`Trials`).
-use Prim.Native.Nat.{ℕ, _-_, _+_, _*_, _^_, _≤_}
+use Prim.Native.Nat.{_+_, _-_, _*_, _^_, _≤_}
 use native.Mathlib.Omega.{arith}
 use borrow.Author.Needs.{needs}
 use Rattle.root.specs.Steps.{Tried, Moving}

@@ -1,5 +1,5 @@
 -- `digits_of_three` meets its contract: `digits` for each of the three, and the moves once.
-use Prim.Native.Nat.{ℕ, _-_, _+_, _*_, _^_, _≤_}
+use Prim.Native.Nat.{_+_, _-_, _*_, _^_, _≤_}
 use native.Mathlib.Omega.{arith}
 use borrow.Author.Needs.{needs}
 use Rattle.root.specs.Steps.{Tried, Moving}

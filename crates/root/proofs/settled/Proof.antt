@@ -1,5 +1,4 @@
 -- `settled` meets its contract: any radicand of the right size may stand there.
-use mathlib.Core.Path.{sym}
 use mathlib.Core.Bool.{false≢true}
 use native.Mathlib.Omega.{arith}
 use Rattle.root.proofs.settled.Statement.{statement}

@@ -1,8 +1,7 @@
 -- `step` meets its contract: both choices are by the borrow (`Trials`).
 use mathlib.Core.Path.{sym, subst}
 use mathlib.Core.Logic.{inl, inr, ⊎-elim}
-use Prim.Native.Nat.{ℕ, _*_, _/_, _%_, _^_, _≤_, _<_}
-use native.Mathlib.Omega.{arith}
+use Prim.Native.Nat.{ℕ, _*_, _%_, _^_, _<_}
 use borrow.Author.Needs.{needs}
 use Rattle.root.specs.Steps.{Tried}
 use Rattle.root.proofs.Trials.{digit}

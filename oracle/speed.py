@@ -52,7 +52,7 @@ def night():
 
 def turns(before, after):
     out = ['### Against another commit\'s library', '', 'In one run, pass by pass in turns (`oracle/turns BEFORE.a AFTER.a`).', '', '| | before | after | ratio |', '|---|---|---|---|']
-    for line in said('oracle/turns', before, after, '100').splitlines():
+    for line in said('oracle/turns', before, after, '600').splitlines():
         m = re.match(r'(.+?)\s+([0-9.]+)\s+([0-9.]+)\s+([0-9.]+)$', line)
         if m: out.append('| ' + ' | '.join(m.groups()).replace('phi', 'φ') + ' |')
     return out + ['']

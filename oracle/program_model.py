@@ -12,6 +12,7 @@ and only such arguments are evaluated as documents 01 and 02 name the answer of,
   oracle/program_model.py --compare-files N [SEED [FOLDER [PROGRAM..]]]   N random runs of the programs, those in FOLDER (target/bin), most of them over damaged sheets
 """
 import math, os, random, re, shutil, struct, subprocess, sys
+import machine
 
 ROOT = os.path.join(os.path.dirname(os.path.abspath(__file__)), '..')
 PART = 4096  # bytes that the program reads at a time
@@ -273,12 +274,8 @@ def wanted():
 # ---- the program beside the model
 
 def program():
-    """The command that runs target/bin/legsheet: with the kit's C library where the system's is too old for it."""
-    command = [os.path.join(ROOT, 'target/bin/legsheet')]
-    if subprocess.run(command, stdin=subprocess.DEVNULL, capture_output=True).returncode:
-        kit = os.path.dirname(os.path.dirname(subprocess.run(['rt', 'doc'], capture_output=True, text=True).stdout.strip())) + '/toolchain/lib'
-        command = [kit + '/ld-linux-x86-64.so.2', '--library-path', kit] + command
-    return command
+    """The command that runs target/bin/legsheet."""
+    return machine.command(os.path.join(ROOT, 'target/bin/legsheet'))
 
 def damaged(rng):
     """A good input with up to three bytes changed, put in, taken out or repeated, and at times a line to function 1."""

@@ -14,7 +14,7 @@ A stored run is a text. Lines that begin with two spaces belong to the heading a
   errors none | some | any      standard error is empty; is not; may be either
   after NAME                    a file that the run wrote, as it is then. Every other name is as before: the same file, not touched. No name is left over."""
 import hashlib, itertools, os, pty, random, re, shutil, stat, struct, subprocess, sys, tempfile, termios
-import files_model, program_model as lines, sheet_model as sheets
+import files_model, machine, program_model as lines, sheet_model as sheets
 from files_model import Input, Ran, World
 
 STORED = os.path.join(lines.ROOT, 'faces/program/runs')
@@ -385,20 +385,12 @@ def read_run(name, text):
 # ---- a run of a program
 
 def command(program, folder=None):
-    """The command that runs a program: with the kit's C library where the system's is too old for it."""
-    path = os.path.abspath(os.path.join(folder or os.path.join(lines.ROOT, 'target/bin'), program))
-    if path not in COMMANDS:
-        COMMANDS[path] = [path]
-        if subprocess.run([path, 'a', 'b', 'c'], stdin=subprocess.DEVNULL, capture_output=True).returncode:
-            kit = os.path.dirname(os.path.dirname(subprocess.run(['rt', 'doc'], capture_output=True, text=True).stdout.strip())) + '/toolchain/lib'
-            COMMANDS[path] = [kit + '/ld-linux-x86-64.so.2', '--library-path', kit, path]
-    return COMMANDS[path]
-
-
-COMMANDS = {}
+    """The command that runs a program, one of the folder or of target/bin."""
+    return machine.command(os.path.abspath(os.path.join(folder or os.path.join(lines.ROOT, 'target/bin'), program)))
 
 
 def is_root(): return os.geteuid() == 0
+def nobody_reads(path): return not subprocess.run(['test', '-r', path], user=NOBODY, group=NOBODY, extra_groups=[]).returncode
 
 
 class Place:
@@ -517,6 +509,7 @@ def faults(run, folder=None):
     """What a run of the program does otherwise than the stored one, as a list of sentences; None where it can't be tried here."""
     nobody = bool(run.world.modes) and is_root()
     words = command(run.program, folder)
+    if nobody and len(words) > 1 and not nobody_reads(words[-1]): return None  # what stands before it would start all the same
     place = Place(run.world, nobody)
     try:
         status, printed, errors = talk(words + run.words, place.folder, run.given, nobody)

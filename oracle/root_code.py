@@ -3,11 +3,15 @@
 In crates/root/src no `*`, `/` or `%` stands outside comments and contracts. In ARCHIVE (target/staticlib/libshuttlemint.a, which
 `rt staticlib shuttlemint` writes) the root has no multiplication, no division, no call, and one loop with no branch in it. The
 loop of three roots at once, in whatever function it was put, has none of these either, and touches no memory.
-It needs objdump. Its last line says what it saw; it ends with status 1 where a rule is broken."""
+It needs objdump, one for x86-64; where there is none, on another processor, it says so. Its last line says what it saw; it ends
+with status 1 where a rule is broken."""
 import re
 import subprocess
 import sys
 from pathlib import Path
+
+sys.dont_write_bytecode = True
+import machine
 
 HERE = Path(__file__).resolve().parent
 FORBIDDEN = re.compile(r"^(v?f?n?madd|i?mul|v?p?mul|i?div|v?div|v?sqrt|v?fmadd|f(mul|div|sqrt)|call|syscall|int\b)")
@@ -39,7 +43,7 @@ def check_source():
 
 def functions(archive):
     """Each function's instructions: (address, mnemonic, operands), and a last field for the symbol that a relocation names."""
-    run = subprocess.run(["objdump", "-dr", "--no-show-raw-insn", archive], capture_output=True, text=True)
+    run = subprocess.run([*machine.words("objdump"), "-dr", "--no-show-raw-insn", archive], capture_output=True, text=True)
     if run.returncode:
         fail(run.stderr.strip())
     found, name = {}, None
@@ -114,6 +118,10 @@ def check_root(code, archive):
 
 
 check_source()
+if not machine.words("objdump"):
+    machine.not_tried("the root's code as compiled (no disassembler for x86-64 here; Debian: binutils-x86-64-linux-gnu)")
+    print("the root's code: no multiplication, no division, as written")
+    sys.exit()
 archive = sys.argv[1] if len(sys.argv) > 1 else str(HERE.parent / "target/staticlib/libshuttlemint.a")
 code = functions(archive)
 name, count, size = check_root(code, archive)

@@ -1,4 +1,5 @@
-/* Floating-point traps and flags, as the header has them. The functions of fenv.h are in the C library's -lm. */
+/* Floating-point traps and flags, as the header has them. The functions of fenv.h are in the C library's -lm.
+   With a word it leaves out that an exception traps: an emulator makes no traps. */
 #ifndef _GNU_SOURCE
 #define _GNU_SOURCE /* feenableexcept */
 #endif
@@ -59,8 +60,9 @@ static int trapped(size_t k, int held)
     return WIFSIGNALED(status) ? WTERMSIG(status) : WEXITSTATUS(status);
 }
 
-int main(void)
+int main(int argc, char **argv)
 {
+    (void)argv;
     for (size_t k = 0; k < sizeof exceptions / sizeof *exceptions; k++) {
         uint64_t out[2], again[2];
         uint8_t refusal;
@@ -70,7 +72,8 @@ int main(void)
         feraiseexcept(FE_ALL_EXCEPT);
         CHECK(raise_with(k, again) == refusal && again[0] == out[0] && again[1] == out[1]);
         CHECK(fetestexcept(FE_ALL_EXCEPT) == FE_ALL_EXCEPT); /* none is cleared */
-        CHECK(trapped(k, 0) == SIGFPE);
+        if (argc == 1)
+            CHECK(trapped(k, 0) == SIGFPE);
         CHECK(trapped(k, 1) == 0);
     }
     printf("%u checks, %u failures\n", checks, failures);

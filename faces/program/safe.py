@@ -12,6 +12,7 @@ import tempfile
 import time
 
 import files_model
+import machine
 import program_model
 import program_runs
 from files_model import Input, Ran, World
@@ -135,9 +136,16 @@ class Tests:
         self.tried = self.wrong = self.strays = self.killed = 0
         self.room = tempfile.mkdtemp(prefix='legs')
         os.chmod(self.room, 0o755)
-        self.shim = os.path.join(self.room, 'shim.so')
-        source = os.path.join(os.path.dirname(os.path.abspath(__file__)), 'shim.c')
-        subprocess.run(['gcc', '-shared', '-fPIC', '-O1', '-Wall', '-Wextra', '-Werror', '-o', self.shim, source], check=True)
+        self.shim = self.made_shim(machine.words('cc'))
+
+    def made_shim(self, cc):
+        """The shim's file; None where no compiler makes one for the programs."""
+        if not cc:
+            machine.not_tried('runs in which a chosen call fails, is cut short or ends in a kill (shim.c wants a compiler for x86-64; Debian: gcc-x86-64-linux-gnu)')
+            return None
+        made, source = os.path.join(self.room, 'shim.so'), os.path.join(os.path.dirname(os.path.abspath(__file__)), 'shim.c')
+        subprocess.run([*cc, '-shared', '-fPIC', '-O1', '-Wall', '-Wextra', '-Werror', '-o', made, source], check=True)
+        return made
 
     def away(self): shutil.rmtree(self.room)
 
@@ -151,19 +159,23 @@ class Tests:
 
     def all(self, kills, disk):
         small = self.those(writers())
-        for run in small + self.those(large()) + self.those(readers()):
-            calls = self.seen(run)
-            if run in small or not run.ran.wrote and run.ran.errors == 'none': self.failures(run, calls)
-            self.short(run)
+        if self.shim: self.calls_one_by_one(small)
         for run in small:
             self.limits(run)
             self.outputs(run)
-        for run in small: self.killed_at_each_call(run)
         for run in self.those(readers()): self.outputs(run)
         self.modes()
         self.together()
         self.kills(kills)
         if disk: self.full_disk()
+
+    def calls_one_by_one(self, small):
+        """All that takes the shim."""
+        for run in small + self.those(large()) + self.those(readers()):
+            calls = self.seen(run)
+            if run in small or not run.ran.wrote and run.ran.errors == 'none': self.failures(run, calls)
+            self.short(run)
+        for run in small: self.killed_at_each_call(run)
 
     def seen(self, run):
         """The calls that a run makes, in an order that is safe."""

@@ -1,7 +1,7 @@
 //! K and E: the proved library against the same tables and iteration in Rust, in one run. m is spread evenly from -10 to 0.999, and then
 //! over the part that iterates. `twin` is the library's own code as Rust, called the same way (by function number, on patterns) and then
 //! directly, `ellip` the f64 reading of the given files on the hardware's root, `by_isqrt` that reading with root by u128::isqrt and multiply-add in integers.
-//! twin: functions fused
+//! twin: sheet fused
 #[path = "target/by_isqrt/lib.rs"]
 #[allow(unused_imports)]
 mod by_isqrt;
@@ -14,7 +14,7 @@ use twin::answer::Parameter;
 const PASSES: usize = 40;
 
 fn by_twin(function: u8, m: f64) -> (u8, u64, u64) {
-    let z = twin::answer::read(twin::functions::evaluate(function, m.to_bits(), 0, 0));
+    let z = twin::answer::read(twin::sheet::evaluate(function, m.to_bits(), 0, 0));
     (z.refusal, twin::bits::to_pattern(z.first), twin::bits::to_pattern(z.second))
 }
 

@@ -1,6 +1,6 @@
 //! ellippi, ellipeinc and ellipf: the proved library against the same code in Rust and Boost.Math, in one run, and the rounds that Carlson's
 //! recipes make on typical legs: meridian arcs on WGS84, by b·E(β, -e'²).
-//! twin: functions
+//! twin: sheet
 //! c++: boost_calls
 mod library;
 mod patterns;

@@ -1,12 +1,16 @@
-"""What speed.py, compare.py and gate_table.py share: a part of docs/MEASURED.md between two marks, and the machine's name."""
+"""What speed.py, compare.py, gate_table.py and first_command.py share: a part of docs/MEASURED.md between two marks, and the machine's name."""
 import os
+import subprocess
 
 ROOT = os.path.normpath(os.path.join(os.path.dirname(os.path.abspath(__file__)), '..'))
 PAGE = os.path.join(ROOT, 'docs', 'MEASURED.md')
 
 
 def machine():
-    with open('/proc/cpuinfo') as f: name = next(line.split(':')[1].strip() for line in f if line.startswith('model name'))
+    said = subprocess.run(['lscpu'], capture_output=True, text=True, env={**os.environ, 'LC_ALL': 'C'}).stdout
+    of = {name.strip(): value.strip() for name, _, value in (line.partition(':') for line in said.splitlines())}
+    name = of.get('Model name', 'a processor without a name')
+    if of.get('Architecture') != 'x86_64': name += f" ({of.get('Architecture')})"
     return f'{name}, {os.cpu_count()} processors'
 
 

@@ -15,9 +15,10 @@ use lib.Ieee.Scale.{round-same}
 use Rattle.laws.specs.laws.Exact.{round-self}
 use Rattle.answer.specs.declared.Answer.{Answer}
 use Rattle.answer.specs.declared.Answer.the-variants.{One, Refused}
+use Rattle.answer.specs.Answer.{OneThat}
 use Rattle.bounds.specs.Fractions.{_over_, AtMost}
 use Rattle.angle.specs.Series.{taylor, UpToFour, SineWithin, CosineWithin, UpToOne}
-use Rattle.bounds.specs.Close.{distanceOf, Close, Answers}
+use Rattle.bounds.specs.Close.{distanceOf, Close}
 use Rattle.angle.specs.Alternating.{squareOf, alternatingOf, upToFour}
 use Rattle.angle.specs.Sine.{sineAt, sineOf}
 use Rattle.angle.specs.Cosine.{cosineAt, cosineOf}
@@ -162,12 +163,12 @@ module _ (f : Bool → ℕ → ℕ → Float) where
       go false c e = h s m e' g (c tt) t n k (cc)
 
 pub sine-within : (k d : ℕ) → k * 2 ^ d ≡ 2 ^ 60 → 256 ≤ k → (x : Float) → T (fits binary64 x) → SineWithin d x (sineOf x)
-unfolding SineWithin Answers sineOf
-sine-within k d h l = angle sineAt (λ (s : Bool) (p q : ℕ). Answers (p over (q * 2 ^ d)) (taylor p q 1 21) s) (λ s m e f c. sine-close s m e f c k d h l)
+unfolding SineWithin OneThat sineOf
+sine-within k d h l = angle sineAt (λ (s : Bool) (p q : ℕ). OneThat (Close (p over (q * 2 ^ d)) (taylor p q 1 21) s)) (λ s m e f c. sine-close s m e f c k d h l)
 
 pub cosine-within : (k d : ℕ) → k * 2 ^ d ≡ 2 ^ 60 → 256 ≤ k → (x : Float) → T (fits binary64 x) → CosineWithin d x (cosineOf x)
-unfolding CosineWithin Answers cosineOf
-cosine-within k d h l = angle cosineAt (λ (s : Bool) (p q : ℕ). Answers (1 over 2 ^ d) (taylor p q 0 22) false) (λ s m e f c. cosine-close (m * up e) (down e) (down-pos e) c s k d h l)
+unfolding CosineWithin OneThat cosineOf
+cosine-within k d h l = angle cosineAt (λ (s : Bool) (p q : ℕ). OneThat (Close (1 over 2 ^ d) (taylor p q 0 22) false)) (λ s m e f c. cosine-close (m * up e) (down e) (down-pos e) c s k d h l)
 
 pub sine-up-to-one : (x : Float) → T (fits binary64 x) → UpToOne (sineOf x)
 unfolding sineOf

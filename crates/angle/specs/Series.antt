@@ -7,8 +7,9 @@ use lib.IntN.{ℤ}
 use lib.Ieee.{Float, nan, inf, fin, up, down}
 use Rattle.answer.specs.declared.Answer.{Answer}
 use Rattle.answer.specs.declared.Answer.the-variants.{One, Refused}
+use Rattle.answer.specs.Answer.{OneThat}
 use Rattle.bounds.specs.Fractions.{Fraction, Difference, _over_, AtMost, withSign, _⊟_}
-use Rattle.bounds.specs.Close.{Answers}
+use Rattle.bounds.specs.Close.{Close}
 
 unfoldable pub factorial : ℕ → ℕ
 factorial zero = 1
@@ -33,11 +34,11 @@ UpToFour Q (fin s m e) r = cond (ltb (4 * down e) (m * up e)) (r ≡ Refused 12)
 
 -- 01: within |x| 2^-d of x - x³ / 3! + .. to degree 41. Its powers are odd, so for x < 0 it is said of -x and the negated answer.
 unfoldable pub SineWithin : ℕ → Float → Answer → Type 0
-SineWithin d = UpToFour (λ (s : Bool) (p q : ℕ). Answers (p over (q * 2 ^ d)) (taylor p q 1 21) s)
+SineWithin d = UpToFour (λ (s : Bool) (p q : ℕ). OneThat (Close (p over (q * 2 ^ d)) (taylor p q 1 21) s))
 
 -- 01: within 2^-d of 1 - x² / 2! + .. to degree 42, whose powers are even
 unfoldable pub CosineWithin : ℕ → Float → Answer → Type 0
-CosineWithin d = UpToFour (λ (s : Bool) (p q : ℕ). Answers (1 over 2 ^ d) (taylor p q 0 22) false)
+CosineWithin d = UpToFour (λ (s : Bool) (p q : ℕ). OneThat (Close (1 over 2 ^ d) (taylor p q 0 22) false))
 
 -- |r| ≤ 1, where r is an answer
 unfoldable pub UpToOne : Answer → Type 0

@@ -32,3 +32,10 @@ valueOf (One x) = x
 valueOf (Pair x y) = x
 valueOf (Infinite s) = inf s
 valueOf (Refused n) = nan
+
+-- the answer is one float, and P holds of it
+unfoldable pub OneThat : (Float → Type 0) → Answer → Type 0
+OneThat P (One x) = P x
+OneThat P (Pair x y) = ⊥
+OneThat P (Infinite s) = ⊥
+OneThat P (Refused n) = ⊥

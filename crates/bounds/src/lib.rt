@@ -1,1 +1,1 @@
-// No code: exact fractions, and what it is to answer within a bound of one, stand in specs/.
+// No code: exact fractions, and what it is to lie within a bound of one, stand in specs/.

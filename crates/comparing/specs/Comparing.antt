@@ -9,8 +9,9 @@ use Rattle.laws.specs.Ladder.{when_gives_else_}
 use Rattle.difference.specs.Difference.{stopOf}
 use Rattle.differing.specs.Differing.{textOf, refusedText}
 use Rattle.files.specs.Calls.{Called, counts, words}
-use Rattle.files.specs.Load.{Load}
-use Rattle.files.specs.Notes.{cannotRead, usageLine}
+use Rattle.loading.specs.Load.{Load}
+use Rattle.files.specs.Notes.{usageLine}
+use Rattle.loading.specs.Notes.{cannotRead}
 use Rattle.files.specs.declared.sending.Output.{Output}
 use Rattle.files.specs.Output.{outputOf, Wrote}
 

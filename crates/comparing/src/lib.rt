@@ -1,15 +1,15 @@
 // Two sheet files compared: all that legdiff does (02, [5]). Lines are sent one after the other from one small buffer, so memory does not grow with them.
 use difference::Stop;
 use differing::LINE;
-use files::MOST;
 use files::Output;
 use files::WORD;
+use loading::MOST;
 ghost use mathlib.Core.Path.{_≡_};
 ghost use mathlib.Core.List.{_++_};
 ghost use Prim.Native.Nat.{_≤_};
 ghost use Rattle.ledger.specs.Sheet.{mostRows};
 ghost use Rattle.ledger.specs.Calls.{rowsIn};
-ghost use Rattle.files.specs.Notes.{cannotRead};
+ghost use Rattle.loading.specs.Notes.{cannotRead};
 ghost use Rattle.files.specs.Output.{Wrote};
 ghost use Rattle.differing.specs.Differing.{lineOf, linesOf, endOf, refusedText};
 ghost use Rattle.comparing.specs.Comparing.{comparedText, Done, Ran};
@@ -82,7 +82,7 @@ fn unread(program: &[u8], out: Output, name: &[u8]) -> Output
         program,
         b": nothing was compared; look at the name, and whether that file may be read\n",
     );
-    files::cannot_read(out, name)
+    loading::cannot_read(out, name)
 }
 
 // Both files are read before either is tested.
@@ -92,8 +92,8 @@ fn compare_files(program: &[u8], output: i32, old: &[u8], new: &[u8]) -> Output
     let mut first = [0u8; MOST];
     let mut second = [0u8; MOST];
     let out = files::begin(output);
-    let before = files::load(old, &mut first);
-    let after = files::load(new, &mut second);
+    let before = loading::load(old, &mut first);
+    let after = loading::load(new, &mut second);
     if !before.ok {
         return unread(program, out, old);
     }

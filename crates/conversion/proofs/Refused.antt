@@ -8,7 +8,8 @@ use borrow.Author.Tests.{eq-eqb, ne-eqb, lt-ltb, le-ltb}
 use lib.Dec.{ltb, eqb}
 use lib.Ieee.{Float, nan, inf, fin}
 use Rattle.ledger.specs.Sheet.{functionIn, refusalIn, firstIn, kindOf, classOf}
-use Rattle.ledger.specs.Calls.{rowsIn, rowIn, isSheetOf, rowRefusal, soundRow, classIn, timesOf, countOf}
+use Rattle.ledger.specs.Calls.{rowsIn, rowIn, isSheetOf, rowRefusal, timesOf, countOf}
+use Rattle.inspection.specs.Rows.{soundRow, classIn}
 use Rattle.conversion.specs.declared.Stop.{Stop}
 use Rattle.conversion.specs.Conversion.{saysBefore, firstOf, rejected, uncounted, oftener, tested, stopped, stopOf}
 

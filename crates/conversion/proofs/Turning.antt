@@ -6,7 +6,7 @@ use Prim.Native.Nat.{ℕ, suc, _+_, _-_, _/_, _%_, _≤_, _<_}
 use native.Mathlib.Omega.{arith}
 use borrow.Author.Tests.{ne-eqb}
 use lib.Dec.{eqb}
-use lib.ListN.{length, take, drop, set, length-drop, take-append-drop}
+use lib.ListN.{length, take, drop, set, take-append-drop}
 use lib.Seq.{sets-eq, take-at, drop-at, drop-drop, length-take-le}
 use borrow.Rule.Slice.PartMut.{putMid}
 use Rattle.laws.specs.Splice.{splice}
@@ -16,7 +16,7 @@ use Rattle.ledger.specs.Calls.{Sized, rowsIn, rowIn}
 use Rattle.laws.specs.laws.Splices.{take-past, drop-past, length-splice}
 use Rattle.ledger.specs.laws.Fields.{length-bytes}
 use Rattle.ledger.proofs.Words.{put-back}
-use Rattle.ledger.specs.laws.Refusals.{sheet-of-few, sheet-of-length}
+use Rattle.ledger.specs.laws.Refusals.{row-48, sheet-of-few, sheet-of-length}
 use Rattle.conversion.specs.declared.Stop.{Stop}
 use Rattle.conversion.specs.Conversion.{saysBefore, saysAfter, once, driven, turned, turnedRows, turnedSheet, stopOf, convertedOf}
 use Rattle.conversion.specs.laws.Rows.{length-turned}
@@ -44,10 +44,6 @@ turned-is forth w k h e = rw e (two-set w (cond forth (cond (eqb (functionIn w) 
 -- rows before i as they are, those from i to n turned, and what follows them
 abbrev pub Left : Bool → ℕ → ℕ → List ℕ → List ℕ
 Left forth n i s = take (rowPlace i) s ++ turnedRows forth (n - i) (drop (rowPlace i) s)
-
-pub row-48 : (s : List ℕ) (i : ℕ) → rowPlace i + 48 ≤ length s → length (rowIn s i) ≡ 48
-unfolding rowIn
-row-48 s i h = length-take-le 48 (drop (rowPlace i) s) (rw (length-drop (rowPlace i) s) (omega arith))
 
 -- the row's part was lent, and is back
 pub part-turned : (forth : Bool) (s : List ℕ) (i at : ℕ) (y : List ℕ) → rowPlace i + 48 ≤ length s → at ≡ rowPlace i → y ≡ turned forth (take (at + 48 - at) (drop at s))

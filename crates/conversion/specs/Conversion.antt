@@ -8,7 +8,8 @@ use Rattle.laws.specs.Ladder.{when_gives_else_}
 use Rattle.laws.specs.Splice.{splice}
 use Rattle.ledger.specs.Bytes.{bytes}
 use Rattle.ledger.specs.Sheet.{Row, withoutTimes, withTimes, blankClass, finiteClass, plus∞Class, minus∞Class, refusedClass, functionIn}
-use Rattle.ledger.specs.Calls.{rowsIn, isSheetOf, soundRow, firstFrom, classIn, timesOf, countOf}
+use Rattle.ledger.specs.Calls.{rowsIn, isSheetOf, timesOf, countOf}
+use Rattle.inspection.specs.Rows.{soundRow, firstFrom, classIn}
 use Rattle.conversion.specs.declared.Stop.{Stop}
 
 -- what the sheet must say, and what it says afterwards

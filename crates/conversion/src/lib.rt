@@ -35,17 +35,17 @@ fn says_after(forth: bool) -> u8
 fn is_rejected(sheet: &[u8], row: u32) -> bool
     ensures { λ r. ⌜ r ≡ rejected (now (sheet .entry)) row ⌝ }
 {
-    if !ledger::row_sound(sheet, row) {
+    if !inspection::row_sound(sheet, row) {
         return true;
     }
-    ledger::count(sheet, ledger::row_class(sheet, row) as u8) == 0
+    ledger::count(sheet, inspection::row_class(sheet, row) as u8) == 0
 }
 
 // Whether the row is not blank and was driven other than once.
 fn is_oftener(sheet: &[u8], row: u32) -> bool
     ensures { λ r. ⌜ r ≡ oftener (now (sheet .entry)) row ⌝ }
 {
-    if ledger::row_class(sheet, row) == 0 {
+    if inspection::row_class(sheet, row) == 0 {
         return false;
     }
     ledger::row_times(sheet, row) != 1

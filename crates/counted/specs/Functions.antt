@@ -14,8 +14,8 @@ use Rattle.answer.specs.laws.Rounds.{asked, failed}
 use Rattle.counted.specs.Ellippi.{ellippi-few}
 use Rattle.counted.specs.Ellipeinc.{ellipeinc-few}
 use Rattle.counted.specs.Ellipf.{ellipf-few}
-use Rattle.functions.specs.Functions.{countedOf}
-use Rattle.functions.specs.laws.Evaluated.{counted-beyond}
+use Rattle.sheet.specs.Functions.{countedOf}
+use Rattle.sheet.specs.laws.Evaluated.{counted-beyond}
 
 pub counted-few : (f a b c : ℕ) → countedOf f a b c .rounds ≤ 4224
 unfolding countedOf

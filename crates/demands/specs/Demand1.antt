@@ -16,8 +16,8 @@ use Rattle.answer.specs.Answer.{refusalOf, firstOf, secondOf}
 use Rattle.answer.specs.Numbers.{last}
 use Rattle.answer.specs.Sound.{Sound}
 use Rattle.answer.specs.laws.Sound.{never-nan, refused-zeros}
-use Rattle.functions.specs.Functions.{evaluateOf}
-use Rattle.functions.specs.laws.Evaluated.{evaluated-sound, beyond}
+use Rattle.sheet.specs.Functions.{evaluateOf}
+use Rattle.sheet.specs.laws.Evaluated.{evaluated-sound, beyond}
 use Rattle.ledger.specs.Sheet.{withdrawn, withoutTimes, withTimes, mostRows, sizeFor}
 use Rattle.ledger.specs.Calls.{isSheetOf, isSheet, rowsIn, damaged, rungs, blankRefusal, blankOf, rowRefusal, readOf, timesOf, totalRefusal, totalOf}
 use Rattle.ledger.specs.laws.Refusals.{says}

@@ -18,7 +18,7 @@ use Rattle.legendre.specs.Ellipe.{ellipeOf}
 use Rattle.legendre.specs.Ellipke.{ellipkeOf}
 use Rattle.legendre.specs.Promises.{Answers}
 use Rattle.legendre.specs.laws.Values.{ellipk-answers, ellipe-answers, ellipke-answers}
-use Rattle.functions.specs.Functions.{countedOf, evaluateOf}
+use Rattle.sheet.specs.Functions.{countedOf, evaluateOf}
 
 pub record Demand2 : Type 0 where
   -- the root of a positive f64 is the exact root rounded once, ties to even: `Between` holds it to the nearest by squares

@@ -7,7 +7,7 @@ use borrow.Author.Tests.{eq-eqb, ne-eqb}
 use lib.Ieee.Scale.{finite}
 use Rattle.laws.specs.Arithmetic.{float}
 use Rattle.ledger.specs.Sheet.{finiteClass}
-use Rattle.ledger.specs.Calls.{classIn, wordOf}
+use Rattle.inspection.specs.Rows.{classIn, wordOf}
 use Rattle.difference.specs.Steps.{stepsOf}
 use Rattle.difference.specs.Difference.{agree, distanceOf, changeOf}
 use Rattle.difference.specs.declared.Change.{Change}

@@ -1,31 +1,14 @@
 -- The rungs of a refused comparison. Assumes nothing.
 use mathlib.Core.Path.{_≡_, refl, ap, _∙_, sym}
-use mathlib.Core.Bool.{Bool, true, false, cond, not}
+use mathlib.Core.Bool.{Bool, true, false, cond}
 use mathlib.Core.List.{List}
 use Prim.Native.Nat.{ℕ, _≤_, _<_}
 use borrow.Author.Tests.{lt-ltb, le-ltb, eq-eqb, ne-eqb}
 use lib.Dec.{ltb}
-use Rattle.ledger.specs.Calls.{rowsIn, isSheet, totalRefusal, firstRejected}
+use Rattle.ledger.specs.Calls.{rowsIn, isSheet}
+use Rattle.inspection.specs.Rows.{firstRejected}
 use Rattle.difference.specs.declared.Stop.{Stop}
 use Rattle.difference.specs.Difference.{stop, stopOf}
-
--- ---- what the refusal of a total says of the bytes
-none-of : (b : Bool) → (_≡_ {A = ℕ} (cond (not b) 7 0) 0 → ⊥) → b ≡ false
-none-of true h = absurd (h refl)
-none-of false h = refl
-
-one-of : (b : Bool) → _≡_ {A = ℕ} (cond (not b) 7 0) 0 → b ≡ true
-one-of true h = refl
-one-of false h = let z : _≡_ {A = ℕ} 7 0 = h in cc
-
-module _ (s : List ℕ) (q : ℕ) (e : q ≡ totalRefusal s) where
-  pub no-sheet : (q ≡ 0 → ⊥) → isSheet s ≡ false
-  unfolding totalRefusal
-  no-sheet h = none-of (isSheet s) (λ z. h (e ∙ z))
-
-  pub a-sheet : q ≡ 0 → isSheet s ≡ true
-  unfolding totalRefusal
-  a-sheet h = one-of (isSheet s) (sym e ∙ h)
 
 -- ---- the first rejected row i of sheet k, which has n
 module _ (s : List ℕ) (k i n : ℕ) (f : i ≡ firstRejected s) (r : n ≡ rowsIn s) (q : Stop) where

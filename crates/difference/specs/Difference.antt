@@ -9,7 +9,8 @@ use Rattle.laws.specs.Arithmetic.{float}
 use Rattle.laws.specs.Ladder.{when_gives_else_}
 use Rattle.total.specs.Total.{N, Half}
 use Rattle.ledger.specs.Sheet.{finiteClass}
-use Rattle.ledger.specs.Calls.{rowsIn, equal, isSheet, readOf, firstRejected, classIn, wordOf, exactOf}
+use Rattle.ledger.specs.Calls.{rowsIn, equal, isSheet, readOf, exactOf}
+use Rattle.inspection.specs.Rows.{firstRejected, classIn, wordOf}
 use Rattle.difference.specs.Steps.{stepsOf}
 use Rattle.difference.specs.declared.Stop.{Stop}
 use Rattle.difference.specs.declared.Change.{Change}

@@ -10,7 +10,8 @@ ghost use lib.Ieee.Scale.{finite};
 ghost use Rattle.laws.specs.Arithmetic.{float};
 ghost use Rattle.laws.specs.Ladder.{when_gives_else_};
 ghost use Rattle.total.specs.Total.{val};
-ghost use Rattle.ledger.specs.Calls.{rowsIn, equal, firstRejected};
+ghost use Rattle.ledger.specs.Calls.{rowsIn, equal};
+ghost use Rattle.inspection.specs.Rows.{firstRejected};
 ghost use Rattle.difference.specs.Steps.{stepsOf};
 ghost use Rattle.difference.specs.Difference.{stop, stopOf, agree, distanceOf, changeOf, rowsOf, changes, growthOf, belowZero};
 
@@ -82,7 +83,7 @@ fn refused(refusal: u8, sheet: u8, row: u32) -> Stop
 fn rejected(sheet: &[u8], k: u8) -> Stop
     ensures { λ r. ⌜ r ≡ (when ltb (firstRejected (now (sheet .entry))) (rowsIn (now (sheet .entry))) gives stop 10 k (firstRejected (now (sheet .entry))) else stop 0 0 0) ⌝ }
 {
-    let row = ledger::first_rejected(sheet);
+    let row = inspection::first_rejected(sheet);
     if (row as usize) < ledger::rows_in(sheet) {
         return refused(10, k, row);
     }
@@ -143,9 +144,12 @@ fn is_finite(pattern: u64) -> bool
 fn distance(old: &[u8], new: &[u8], row: u32) -> Change
     ensures { λ r. ⌜ r ≡ distanceOf (now (old .entry)) (now (new .entry)) row ⌝ }
 {
-    let first = steps(ledger::row_word(old, row, 4), ledger::row_word(new, row, 4));
-    let p = ledger::row_word(old, row, 5);
-    let q = ledger::row_word(new, row, 5);
+    let first = steps(
+        inspection::row_word(old, row, 4),
+        inspection::row_word(new, row, 4),
+    );
+    let p = inspection::row_word(old, row, 5);
+    let q = inspection::row_word(new, row, 5);
     if !is_finite(p) {
         return Change::First { first: first };
     }
@@ -165,8 +169,8 @@ pub fn changed(old: &[u8], new: &[u8], row: u32) -> Change
     if agreeing(old, new, row) {
         return Change::Same;
     }
-    let from = ledger::row_class(old, row);
-    let to = ledger::row_class(new, row);
+    let from = inspection::row_class(old, row);
+    let to = inspection::row_class(new, row);
     if from != to {
         return Change::Moved { from: from, to: to };
     }

@@ -6,8 +6,10 @@ use lib.IntN.{ℤ, natAbs}
 use Rattle.laws.specs.Ascii.{ascii}
 use Rattle.laws.specs.Ladder.{when_gives_else_}
 use Rattle.ledger.specs.Sheet.{Row, functionIn, refusalIn, blankClass, finiteClass, plus∞Class, minus∞Class, refusedClass}
-use Rattle.ledger.specs.Calls.{rowsIn, readOf, wordOf, timesOf}
-use Rattle.text.specs.Text.{decimal, pattern, signedHex, space, end}
+use Rattle.ledger.specs.Calls.{rowsIn, readOf, timesOf}
+use Rattle.inspection.specs.Rows.{wordOf}
+use Rattle.text.specs.Text.{decimal, pattern, space, end}
+use Rattle.exact.specs.Exact.{signedHex}
 use Rattle.difference.specs.declared.Stop.{Stop}
 use Rattle.difference.specs.declared.Change.{Change}
 use Rattle.difference.specs.declared.Change.the-variants.{Same, Moved, Alike, First, Steps}

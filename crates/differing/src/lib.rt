@@ -4,16 +4,17 @@ mod side;
 
 use change::put_change;
 use difference::Stop;
+use exact::put_whole;
 use side::put_side;
 use text::put_bytes;
 use text::put_decimal;
-use text::put_whole;
 ghost use mathlib.Core.List.{_++_};
 ghost use Prim.Native.Nat.{_+_, _≤_};
 ghost use lib.ListN.{length};
 ghost use Rattle.laws.specs.Ascii.{ascii};
 ghost use Rattle.total.specs.Total.{val};
-ghost use Rattle.text.specs.Text.{signedHex, end};
+ghost use Rattle.text.specs.Text.{end};
+ghost use Rattle.exact.specs.Exact.{signedHex};
 ghost use Rattle.text.specs.Writing.{Put};
 ghost use Rattle.differing.specs.Differing.{field, last, rowText, lineOf, endOf, stopText};
 

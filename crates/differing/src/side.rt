@@ -35,9 +35,9 @@ fn put_arguments(out: &mut [u8], at: usize, sheet: &[u8], row: u32) -> usize
     ensures { λ r. ⌜ Put (now (out .entry)) (now (out .exit)) at r (argumentsOf (now (sheet .entry)) row) ⌝ }
     ensures { λ r. ⌜ r ≤ at + 51 ⌝ }
 {
-    let first = ledger::row_word(sheet, row, 1);
-    let second = ledger::row_word(sheet, row, 2);
-    let third = ledger::row_word(sheet, row, 3);
+    let first = inspection::row_word(sheet, row, 1);
+    let second = inspection::row_word(sheet, row, 2);
+    let third = inspection::row_word(sheet, row, 3);
     let a = put_pattern(out, at, first, 32);
     let b = put_pattern(out, a, second, 32);
     put_pattern(out, b, third, 32)

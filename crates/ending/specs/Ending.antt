@@ -5,8 +5,8 @@ use mathlib.Core.List.{List, _++_}
 use lib.IntN.{pos}
 use Rattle.laws.specs.Ascii.{ascii}
 use Rattle.laws.specs.Ladder.{when_gives_else_}
-use Rattle.outcome.specs.declared.State.{State}
-use Rattle.outcome.specs.Outcome.{textOf}
+use Rattle.ending.specs.declared.outcome.State.{State}
+use Rattle.ending.specs.Outcome.{textOf}
 use Rattle.files.specs.declared.sending.Output.{Output}
 use Rattle.files.specs.Output.{outputOf, Wrote}
 use Rattle.files.specs.Notes.{cannotWrite}

@@ -1,6 +1,12 @@
-// How a run ends: its text is written, and where something failed it is said what to do next.
+// How a run ends: what it has come to, its text, which is written, and where something failed it is said what to do next.
+mod outcome;
+
 use files::Output;
-use outcome::State;
+pub use outcome::State;
+pub use outcome::bytes;
+pub use outcome::least;
+pub use outcome::put_instead;
+use outcome::put_text;
 use page::LARGEST;
 use page::ROOM;
 ghost use mathlib.Core.Path.{_≡_};
@@ -51,7 +57,7 @@ pub fn write_page(
     ensures { λ r. ⌜ Wrote (outputOf output) (doneText pageOf (now (name .entry)) ok failed st (now (sheet .entry))) r ⌝ }
 {
     let mut out = [0u8; ROOM];
-    let n = outcome::put_text(failed, st, sheet, &mut out);
+    let n = put_text(failed, st, sheet, &mut out);
     write_run(program, output, name, ok, failed, &out[0..n])
 }
 

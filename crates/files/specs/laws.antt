@@ -1,3 +1,2 @@
--- Texts one after the other are one text (Outputs); a file that was read, or was not (Loads).
+-- Texts one after the other are one text.
 pub mod Outputs
-pub mod Loads

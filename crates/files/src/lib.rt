@@ -1,8 +1,8 @@
 // The one crate that opens, reads, makes and writes files, and knows the words of the program's call. Each call of C stands in one function, whose contract says that
 // it was made and what it answered.
 mod calling;
-mod loading;
 mod naming;
+mod opening;
 mod reading;
 mod saving;
 mod saying;
@@ -11,14 +11,13 @@ mod sending;
 pub use calling::WORD;
 pub use calling::word;
 pub use calling::word_count;
-pub use loading::Loaded;
-pub use loading::MOST;
-pub use loading::load;
+pub use opening::close;
+pub use opening::open;
+pub use reading::call_read;
 pub use reading::read_some;
 pub use saving::save;
-pub use saying::cannot_read;
 pub use saying::cannot_write;
-pub use saying::refused_7;
+pub use saying::put_note;
 pub use saying::tell;
 pub use saying::usage;
 pub use sending::Output;

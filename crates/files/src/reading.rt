@@ -5,7 +5,7 @@ ghost use lib.IntN.{negsuc};
 ghost use Rattle.files.specs.Calls.{Called, read, reads};
 
 // The one call of read.
-pub(crate) fn call_read(file: i32, number: u64, part: &mut [u8]) -> isize
+pub fn call_read(file: i32, number: u64, part: &mut [u8]) -> isize
     ensures { λ r. ⌜ Called (reads file number (read r (now (part .exit)))) ⌝ }
 {
     libc::read(file, part)

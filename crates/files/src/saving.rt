@@ -1,7 +1,7 @@
 // A file put in place whole.
-use crate::loading::close;
 use crate::naming::put_new;
 use crate::naming::try_names;
+use crate::opening::close;
 ghost use mathlib.Core.Path.{_≡_};
 ghost use mathlib.Core.Bool.{true};
 ghost use Prim.Native.Nat.{_<_};

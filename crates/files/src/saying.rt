@@ -5,23 +5,16 @@ use crate::put;
 ghost use mathlib.Core.List.{_++_};
 ghost use lib.IntN.{pos};
 ghost use Rattle.laws.specs.Ascii.{ascii};
-ghost use Rattle.files.specs.Notes.{cannotRead, cannotWrite, refused7, usageLine};
+ghost use Rattle.files.specs.Notes.{cannotWrite, usageLine};
 ghost use Rattle.files.specs.Output.{outputOf, Wrote};
 
 // Words, a name and the line's end. The name may be longer than any buffer, so it is sent as it is.
-fn put_note(out: Output, words: &[u8], name: &[u8]) -> Output
+pub fn put_note(out: Output, words: &[u8], name: &[u8]) -> Output
     ensures { λ r. ⌜ Wrote out (now (words .entry) ++ (now (name .entry) ++ ascii "\n")) r ⌝ }
 {
     let a = put(out, words);
     let b = put(a, name);
     put(b, b"\n")
-}
-
-// The file can't be opened or read.
-pub fn cannot_read(out: Output, name: &[u8]) -> Output
-    ensures { λ r. ⌜ Wrote out (cannotRead (now (name .entry))) r ⌝ }
-{
-    put_note(out, b"cannot read ", name)
 }
 
 // The file can't be written.
@@ -36,13 +29,6 @@ pub fn usage(out: Output, call: &[u8]) -> Output
     ensures { λ r. ⌜ Wrote out (usageLine (now (call .entry))) r ⌝ }
 {
     put_note(out, b"usage: ", call)
-}
-
-// The file is no sheet.
-pub fn refused_7(out: Output) -> Output
-    ensures { λ r. ⌜ Wrote out refused7 r ⌝ }
-{
-    put(out, b"refused 7\n")
 }
 
 // To standard error: the program's name, and what to do next.

@@ -4,7 +4,7 @@ use Prim.Native.Nat.{ℕ}
 use native.Mathlib.Omega.{arith}
 use mathlib.Core.Bool.{Bool, true, false}
 use mathlib.Core.List.{List, []}
-use Rattle.files.specs.Load.{Brought, whole, unread, Load, unopened, opened}
+use Rattle.loading.specs.Load.{Brought, whole, unread, Load, unopened, opened}
 
 -- it brings nothing
 pub load-failed : {name bytes : List ℕ} {ok : Bool} → Load name bytes ok → ok ≡ false → Load name [] false

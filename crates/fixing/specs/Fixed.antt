@@ -6,11 +6,11 @@ use mathlib.Core.List.{List, []}
 use lib.IntN.{ℤ}
 use Rattle.ledger.specs.Calls.{isSheet}
 use Rattle.page.specs.Page.{pageOf}
-use Rattle.outcome.specs.Outcome.{Sheet}
+use Rattle.ending.specs.Outcome.{Sheet}
 use Rattle.files.specs.declared.sending.Output.{Output}
-use Rattle.files.specs.Load.{Load}
+use Rattle.loading.specs.Load.{Load}
 use Rattle.files.specs.Output.{outputOf, Wrote}
-use Rattle.files.specs.Notes.{cannotRead, refused7}
+use Rattle.loading.specs.Notes.{cannotRead, refused7}
 use Rattle.runner.specs.Done.{Done}
 
 -- the file can't be read; it is no sheet; or a whole run from its sheet

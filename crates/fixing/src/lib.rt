@@ -1,7 +1,7 @@
 // Lines on the sheet in a file: a whole run of legfix.
-use files::MOST;
+use loading::MOST;
 ghost use mathlib.Core.Bool.{true};
-ghost use Rattle.files.specs.Load.{Load};
+ghost use Rattle.loading.specs.Load.{Load};
 ghost use Rattle.fixing.specs.Fixed.{Fixed};
 
 // Lines on the sheet in these bytes, which the file of this name holds.
@@ -16,7 +16,7 @@ fn fix_sheet(program: &[u8], input: i32, output: i32, name: &[u8], bytes: &[u8])
         program,
         b": the file is no sheet; make one with legsheet FILE\n",
     );
-    let out = files::refused_7(files::begin(output));
+    let out = loading::refused_7(files::begin(output));
     ending::tell_cut(program, out);
 }
 
@@ -25,13 +25,13 @@ pub fn fix(program: &[u8], input: i32, output: i32, name: &[u8])
     ensures { λ _. ⌜ Fixed input output (now (name .entry)) ⌝ }
 {
     let mut file = [0u8; MOST];
-    let loaded = files::load(name, &mut file);
+    let loaded = loading::load(name, &mut file);
     if !loaded.ok {
         files::tell(
             program,
             b": the file could not be read; name a sheet file that is there\n",
         );
-        let out = files::cannot_read(files::begin(output), name);
+        let out = loading::cannot_read(files::begin(output), name);
         ending::tell_cut(program, out);
         return;
     }

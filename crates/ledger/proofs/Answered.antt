@@ -1,20 +1,18 @@
 -- What the public calls hand back, refused and not. Assumes nothing.
-use mathlib.Core.Path.{_≡_, refl, ap, _∙_, sym}
-use mathlib.Core.Bool.{Bool, true, false, cond}
-use mathlib.Core.List.{List, []}
-use Prim.Native.Nat.{ℕ, _+_, _*_, _<_, _≤_}
+use mathlib.Core.Path.{_≡_, ap, _∙_, sym}
+use mathlib.Core.Bool.{true, false}
+use mathlib.Core.List.{List}
+use Prim.Native.Nat.{ℕ, _+_, _<_, _≤_}
 use native.Mathlib.Omega.{arith}
 use borrow.Author.Tests.{eq-eqb, ne-eqb, lt-ltb, le-ltb}
 use lib.Dec.{eqb}
-use lib.ListN.{length, take, drop, getD, replicate, length-take, drop-of-length-le, List·getD-eq-default}
+use lib.ListN.{length, getD, replicate, List·getD-eq-default}
 use lib.Ieee.{Float}
 use Rattle.laws.specs.Arithmetic.{+0}
 use Rattle.total.specs.Total.{roundTotal}
-use Rattle.ledger.specs.Bytes.{number}
 use Rattle.ledger.specs.Sheet.{Row, rowPlace, mostRows, sizeFor, encode, blankRow}
-use Rattle.ledger.specs.Calls.{rowsIn, rowIn, countsIn, totalIn, isSheet, rowRefusal, totalRefusal, placeRefusal, blankRefusal, edited, placeOf, blankOf, readOf, wordOf, totalOf, exactOf, countOf}
-use Rattle.ledger.specs.laws.Refusals.{length-counts, readable, sheet-length}
-use Rattle.ledger.proofs.Places.{row-room, length-row}
+use Rattle.ledger.specs.Calls.{rowsIn, rowIn, countsIn, totalIn, isSheet, rowRefusal, totalRefusal, placeRefusal, blankRefusal, edited, placeOf, blankOf, totalOf, exactOf, countOf}
+use Rattle.ledger.specs.laws.Refusals.{length-counts, row-room, read-48, readable, sheet-length}
 use Rattle.ledger.proofs.Tested.{total-7, total-0}
 
 -- ---- a row placed
@@ -46,30 +44,7 @@ module _ (s : List ℕ) (i q : ℕ) (e : q ≡ rowRefusal s i) where
     read-room = row-room s (sheet-length s (can .0)) i (can .1)
 
     pub read-length : (w : Row) → w ≡ rowIn s i → length w ≡ 48
-    read-length w d = ap length d ∙ length-row s (sheet-length s (can .0)) i (can .1)
-
-row-most : (s : List ℕ) (i : ℕ) → length (rowIn s i) ≤ 48
-unfolding rowIn
-row-most s i = omega (arith, length-take 48 (drop (rowPlace i) s))
-
--- past the end there is no word
-no-bytes : (w : List ℕ) (n : ℕ) → length w ≤ n → 0 ≡ number (take 8 (drop n w))
-unfolding number
-no-bytes w n h = let none : drop n w ≡ [] = drop-of-length-le w h in rw none refl
-
-module _ (s : List ℕ) (i k : ℕ) where
-  -- a row that can't be read has none
-  pub word-unread : eqb (rowRefusal s i) 0 ≡ false → 0 ≡ wordOf s i k
-  unfolding wordOf readOf
-  word-unread e = rw e (no-bytes [] (8 * k) (omega arith))
-
-  -- and one that can has six
-  pub no-word : 5 < k → 0 ≡ wordOf s i k
-  unfolding wordOf readOf
-  no-word h = by (eqb (rowRefusal s i) 0) where
-    by : (t : Bool) → 0 ≡ number (take 8 (drop (8 * k) (cond t (rowIn s i) [])))
-    by true = no-bytes (rowIn s i) (8 * k) (omega (arith, row-most s i))
-    by false = no-bytes [] (8 * k) (omega arith)
+    read-length w d = ap length d ∙ read-48 s i (sym e ∙ h)
 
 -- ---- the total and the counts
 module _ (s : List ℕ) where

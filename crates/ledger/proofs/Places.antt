@@ -3,7 +3,7 @@ use mathlib.Core.Path.{_≡_, ap, _∙_, sym}
 use mathlib.Core.List.{List, [], _∷_, _++_, append-assoc}
 use Prim.Native.Nat.{ℕ, _+_, _-_, _/_, _≤_, _<_}
 use native.Mathlib.Omega.{arith}
-use lib.ListN.{length, take, drop, getD, length-append, length-drop}
+use lib.ListN.{length, take, drop, getD, length-append}
 use lib.Seq.{drop-drop, take-at, drop-at, length-take-le}
 use Rattle.total.specs.Total.{limbsOf}
 use Rattle.laws.specs.Splice.{splice}
@@ -13,15 +13,6 @@ use Rattle.ledger.specs.Calls.{Sized, rowsIn, rowIn, countsIn, totalIn, 
 use Rattle.laws.specs.laws.Splices.{drop-past, length-splice}
 use Rattle.ledger.specs.laws.Refusals.{class-lt, Undamaged}
 use Rattle.ledger.proofs.Counts.{limbs-bytes}
-
--- ---- in a sheet
-module _ (s : List ℕ) (h : Sized s) (i : ℕ) (g : i < rowsIn s) where
-  pub row-room : rowPlace i + 48 ≤ length s
-  row-room = omega (arith, h, g)
-
-  pub length-row : length (rowIn s i) ≡ 48
-  unfolding rowIn
-  length-row = length-take-le 48 (drop (rowPlace i) s) (rw (length-drop (rowPlace i) s) (omega (arith, h, g)))
 
 -- ---- the totals written
 pub totals-are : (cs c : List ℕ) (o n t : ℕ) (l : List ℕ) → fields 8 c ≡ fields 4 (recount cs o n ++ (0 ∷ [])) → l ≡ limbsOf t → fields 8 c ++ fields 8 l ≡ totals (recount cs o n) t

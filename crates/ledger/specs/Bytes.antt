@@ -1,7 +1,9 @@
 -- Numbers in bytes, least byte first. Definitions only.
 use Prim.Native.Nat.{ℕ, zero, suc, _+_, _*_, _/_, _%_}
 use mathlib.Core.List.{List, [], _∷_, _++_}
-use lib.ListN.{take, drop}
+use lib.Dec.{leb}
+use lib.ListN.{length, take, drop}
+use Rattle.laws.specs.Ladder.{when_gives_else_}
 
 -- the k lowest bytes of n
 unfoldable pub bytes : ℕ → ℕ → List ℕ
@@ -22,3 +24,7 @@ fields w (x ∷ xs) = bytes w x ++ fields w xs
 unfoldable pub read : ℕ → ℕ → List ℕ → List ℕ
 read w zero s = []
 read w (suc n) s = number (take w s) ∷ read w n (drop w s)
+
+-- the number in eight bytes from a place on, a bit pattern; 0 where they are not all there
+unfoldable pub patternAt : List ℕ → ℕ → ℕ
+patternAt s at = when leb (at + 8) (length s) gives number (take 8 (drop at s)) else 0

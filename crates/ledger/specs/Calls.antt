@@ -1,5 +1,5 @@
 -- What each call answers, and what it makes of the sheet's bytes (01, "The leg sheet", from "Calls" on). Definitions only.
-use Prim.Native.Nat.{ℕ, zero, suc, _+_, _-_, _*_, _/_}
+use Prim.Native.Nat.{ℕ, _+_, _-_, _/_}
 use mathlib.Core.Path.{_≡_}
 use mathlib.Core.Bool.{Bool, true, false, _&&_, _||_, not}
 use mathlib.Core.List.{List, [], _∷_}
@@ -11,6 +11,7 @@ use Rattle.laws.specs.Ladder.{when_gives_else_}
 use Rattle.answer.specs.Numbers.{last}
 use Rattle.total.specs.Total.{roundTotal}
 use Rattle.laws.specs.Splice.{splice}
+use Rattle.ledger.specs.declared.row.Share.{Share}
 use Rattle.ledger.specs.Bytes.{number, read}
 use Rattle.ledger.specs.Sheet.{Row, withdrawn, withoutTimes, withTimes, entries, sizeFor, mostRows, rowPlace, blankRow, functionIn, timesIn, noClass, classOf, valueOf, sound, retotal, totals, encode}
 
@@ -117,6 +118,12 @@ blankOf s r = when eqb (blankRefusal s r) 0 gives encode (replicate r blankRow) 
 abbrev pub Shared : Row → ℕ → Float → ℕ → Type 0
 Shared w class x k = (class ≡ classOf w) × (x ≡ valueOf w) × (k ≡ timesIn w)
 
+-- the share of any bytes: those that are not 48 are no row
+unfoldable pub shareOf : List ℕ → Share
+shareOf w =
+    when eqb (length w) 48 gives record { class = classOf w; value = valueOf w; times = timesIn w } else
+    record { class = noClass; value = +0; times = 0 }
+
 -- one less of the old class, one more of the new
 unfoldable pub recount : List ℕ → ℕ → ℕ → List ℕ
 recount cs old new = let less = set cs old (getD cs old 0 - 1) in set less new (getD less new 0 + 1)
@@ -136,33 +143,6 @@ placeOf s i w = when eqb (placeRefusal s i w) 0 gives edited s i w else s
 -- the row's own bytes; none where the read is refused
 unfoldable pub readOf : List ℕ → ℕ → List ℕ
 readOf s i = when eqb (rowRefusal s i) 0 gives rowIn s i else []
-
--- whether the row passes the row tests; not where it can't be read
-unfoldable pub soundRow : List ℕ → ℕ → Bool
-soundRow s i = when eqb (rowRefusal s i) 0 gives sound (rowIn s i) else false
-
--- the first of n places from i on at which a test holds; the place after them where it holds at none
-unfoldable pub firstFrom : (ℕ → Bool) → ℕ → ℕ → ℕ
-firstFrom test i zero = i
-firstFrom test i (suc n) =
-    when test i gives i else
-    firstFrom test (suc i) n
-
--- the first row of a sheet that the row tests reject; the row count where they reject none; 0 for other bytes
-unfoldable pub firstRejected : List ℕ → ℕ
-firstRejected s = when isSheet s gives firstFrom (λ (i : ℕ). not (soundRow s i)) 0 (rowsIn s) else 0
-
--- the row's class; none where it can't be read
-unfoldable pub classIn : List ℕ → ℕ → ℕ
-classIn s i = when eqb (rowRefusal s i) 0 gives classOf (rowIn s i) else noClass
-
--- word k of the row: its first eight bytes, the arguments (1 to 3) and the answers (4 and 5) as bit patterns; 0 where there is none
-unfoldable pub wordOf : List ℕ → ℕ → ℕ → ℕ
-wordOf s i k = number (take 8 (drop (8 * k) (readOf s i)))
-
--- its first answer where that is finite, else +0; +0 where it can't be read
-unfoldable pub valueIn : List ℕ → ℕ → Float
-valueIn s i = when eqb (rowRefusal s i) 0 gives valueOf (rowIn s i) else +0
 
 -- how often the row was driven: in a sheet without times once, and a blank row never; 0 where it can't be read
 unfoldable pub timesOf : List ℕ → ℕ → ℕ

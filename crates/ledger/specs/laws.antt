@@ -1,6 +1,5 @@
 -- Laws of the sheet's bytes and calls.
 pub mod Fields
-pub mod First
 pub mod Refusals
 pub mod Rows
 pub mod Weights

@@ -3,7 +3,7 @@ ghost use mathlib.Core.Path.{_≡_};
 ghost use Prim.Native.Nat.{_+_, _*_, _%_, _≤_, _<_};
 ghost use lib.ListN.{length, take, drop, replicate};
 ghost use Rattle.laws.specs.Splice.{splice};
-ghost use Rattle.ledger.specs.Bytes.{bytes, number, fields};
+ghost use Rattle.ledger.specs.Bytes.{bytes, number, fields, patternAt};
 
 fn wide(x: u8) -> u32
     ensures { λ r. ⌜ (r ≡ x) × (r < 256) ⌝ }
@@ -55,6 +55,19 @@ pub(crate) fn get_u64(s: &[u8], at: usize) -> u64
     ensures { λ r. ⌜ r ≡ number (take 8 (drop at (now (s .entry)))) ⌝ }
 {
     pair(get_u32(s, at), get_u32(s, at + 4))
+}
+
+// The bit pattern in eight bytes from a place on; 0 where they are not all there.
+pub fn pattern_at(s: &[u8], at: usize) -> u64
+    ensures { λ r. ⌜ r ≡ patternAt (now (s .entry)) at ⌝ }
+{
+    if s.len() < 8 {
+        return 0;
+    }
+    if s.len() - 8 < at {
+        return 0;
+    }
+    get_u64(s, at)
 }
 
 pub(crate) fn put_u32(s: &mut [u8], at: usize, v: u32)

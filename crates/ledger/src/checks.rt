@@ -3,7 +3,7 @@ use super::bytes::get_u32;
 use super::row::function_of;
 use super::row::is_sound;
 use super::row::row_part;
-use super::row::share_of;
+use super::row::share_in;
 use super::row::words_sound;
 use super::totals::read_counts;
 use super::totals::sum;
@@ -43,27 +43,27 @@ fn starts_with(s: &[u8], words: [u32; 8]) -> bool
     true
 }
 
-// Whether the bytes are a sheet whose rows are of this kind.
-pub(crate) fn is_sheet_of(s: &[u8], kind: u32) -> bool
-    ensures { λ r. ⌜ r ≡ isSheetOf kind (now (s .entry)) ⌝ }
+// Whether the bytes are a sheet whose first word is this one: 3 where its rows keep times, 1 where they do not.
+pub fn says(sheet: &[u8], kind: u32) -> bool
+    ensures { λ r. ⌜ r ≡ isSheetOf kind (now (sheet .entry)) ⌝ }
 {
-    let rows = rows_in(s);
+    let rows = rows_in(sheet);
     if rows > MOST_ROWS {
         return false;
     }
-    if s.len() != size_for(rows as u32) {
+    if sheet.len() != size_for(rows as u32) {
         return false;
     }
-    starts_with(s, contents(kind, rows as u32))
+    starts_with(sheet, contents(kind, rows as u32))
 }
 
 pub(crate) fn is_sheet(s: &[u8]) -> bool
     ensures { λ r. ⌜ r ≡ isSheet (now (s .entry)) ⌝ }
 {
-    if is_sheet_of(s, 3) {
+    if says(s, 3) {
         return true;
     }
-    is_sheet_of(s, 1)
+    says(s, 1)
 }
 
 // Whether a sheet's rows keep times: its first word decides.
@@ -79,7 +79,7 @@ fn is_miscounted(s: &[u8], row: u32) -> bool
     requires { ⌜ Sized (now s) × (row < rowsIn (now s)) × (sound (rowIn (now s) row) ≡ true) ⌝ }
     ensures { λ r. ⌜ r ≡ miscounted (now (s .entry)) row ⌝ }
 {
-    let class = share_of(row_part(s, row)).class;
+    let class = share_in(row_part(s, row)).class;
     let counts = read_counts(s);
     if sum(counts) != rows_in(s) as u64 {
         return true;
@@ -111,10 +111,11 @@ fn refusal_in(s: &[u8], row: u32, taken: bool) -> u8
     0
 }
 
-pub(crate) fn refusal_of_row(s: &[u8], row: u32) -> u8
-    ensures { λ r. ⌜ r ≡ rowRefusal (now (s .entry)) row ⌝ }
+// 7 or 8, or 0: the row can be read.
+pub fn row_refusal(sheet: &[u8], row: u32) -> u8
+    ensures { λ r. ⌜ r ≡ rowRefusal (now (sheet .entry)) row ⌝ }
 {
-    refusal_in(s, row, is_sheet(s))
+    refusal_in(sheet, row, is_sheet(sheet))
 }
 
 // The function that goes out: rows of it stand, and no new one is put in (02, [13]).
@@ -138,7 +139,7 @@ fn refusal_of_function(words: [u64; 6]) -> u8
 pub(crate) fn refusal_of_place(s: &[u8], row: u32, words: [u64; 6]) -> u8
     ensures { λ r. ⌜ r ≡ placeRefusal (now (s .entry)) row (fields 8 words) ⌝ }
 {
-    let refusal = refusal_in(s, row, is_sheet_of(s, 3));
+    let refusal = refusal_in(s, row, says(s, 3));
     if refusal != 0 {
         return refusal;
     }

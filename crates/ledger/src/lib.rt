@@ -1,21 +1,23 @@
 // The leg sheet's bytes, in memory that the caller lends (01, "The leg sheet"): contents, rows, counts and total. Nothing here knows the integrals.
 // Every call answers for any bytes; a refused one changes none.
-use bytes::get_u64;
 use bytes::pair;
+pub use bytes::pattern_at;
 use bytes::put_u32;
 use bytes::put_words;
 use bytes::put_zeros;
 use checks::contents;
 use checks::is_sheet;
-use checks::is_sheet_of;
 use checks::keeps_times;
 use checks::refusal_of_place;
-use checks::refusal_of_row;
+pub use checks::row_refusal;
+pub use checks::says;
+pub use row::Share;
+pub use row::can_stand;
 use row::driven;
-use row::is_sound;
 use row::put_row;
 use row::row_part;
-use row::share_of;
+use row::share_in;
+pub use row::share_of;
 use total::Total;
 use totals::read_counts;
 use totals::read_total;
@@ -27,7 +29,7 @@ ghost use lib.ListN.{length};
 ghost use Rattle.total.specs.Total.{val};
 ghost use Rattle.ledger.specs.Bytes.{fields};
 ghost use Rattle.ledger.specs.Sheet.{mostRows, sizeFor, rowPlace, classOf};
-ghost use Rattle.ledger.specs.Calls.{Sized, rowsIn, blankRefusal, blankOf, damaged, edited, placeRefusal, placeOf, rowRefusal, readOf, isSheetOf, soundRow, firstRejected, classIn, wordOf, valueIn, timesOf, totalRefusal, totalOf, exactOf, countOf};
+ghost use Rattle.ledger.specs.Calls.{Sized, rowsIn, blankRefusal, blankOf, damaged, edited, placeRefusal, placeOf, readOf, timesOf, totalRefusal, totalOf, exactOf, countOf};
 
 mod bytes;
 mod checks;
@@ -94,9 +96,9 @@ fn store(sheet: &mut [u8], row: u32, words: [u64; 6])
     requires { ⌜ Sized (now sheet) × (rowsIn (now sheet) ≤ mostRows) × (row < rowsIn (now sheet)) × (damaged (now sheet) row ≡ false) × (classOf (fields 8 words) < 5) ⌝ }
     ensures { λ _. ⌜ now (sheet .exit) ≡ edited (now (sheet .entry)) row (fields 8 words) ⌝ }
 {
-    let old = share_of(row_part(sheet, row));
+    let old = share_in(row_part(sheet, row));
     put_row(sheet, row, words);
-    let new = share_of(row_part(sheet, row));
+    let new = share_in(row_part(sheet, row));
     revise(sheet, old, new);
 }
 
@@ -112,96 +114,21 @@ pub fn place(sheet: &mut [u8], row: u32, words: [u64; 6]) -> u8
     0
 }
 
-// Whether the bytes are a sheet whose first word is this one: 3 where its rows keep times, 1 where they do not.
-pub fn says(sheet: &[u8], kind: u32) -> bool
-    ensures { λ r. ⌜ r ≡ isSheetOf kind (now (sheet .entry)) ⌝ }
-{
-    is_sheet_of(sheet, kind)
-}
-
 // The row's own 48 bytes, or an empty part; `row_refusal` says why.
 pub fn read_row(sheet: &[u8], row: u32) -> &[u8]
     ensures { λ r. ⌜ now r ≡ readOf (now (sheet .entry)) row ⌝ }
 {
-    if refusal_of_row(sheet, row) != 0 {
+    if row_refusal(sheet, row) != 0 {
         return &sheet[0..0];
     }
     row_part(sheet, row)
-}
-
-// 7 or 8, or 0: the row can be read.
-pub fn row_refusal(sheet: &[u8], row: u32) -> u8
-    ensures { λ r. ⌜ r ≡ rowRefusal (now (sheet .entry)) row ⌝ }
-{
-    refusal_of_row(sheet, row)
-}
-
-// Whether the row passes refusal 10's row tests; false where it can't be read.
-pub fn row_sound(sheet: &[u8], row: u32) -> bool
-    ensures { λ r. ⌜ r ≡ soundRow (now (sheet .entry)) row ⌝ }
-{
-    if refusal_of_row(sheet, row) != 0 {
-        return false;
-    }
-    is_sound(row_part(sheet, row))
-}
-
-// The first row that refusal 10's row tests reject; the row count where they reject none, and 0 where the bytes are no sheet.
-pub fn first_rejected(sheet: &[u8]) -> u32
-    ensures { λ r. ⌜ r ≡ firstRejected (now (sheet .entry)) ⌝ }
-{
-    if !is_sheet(sheet) {
-        return 0;
-    }
-    let rows = rows_in(sheet) as u32;
-    let mut i: u32 = 0;
-    while i < rows {
-        if !row_sound(sheet, i) {
-            return i;
-        }
-        i += 1;
-    }
-    rows
-}
-
-// The row's class, as `count` numbers them; 5 where a NaN first answer leaves it none, or the row can't be read.
-pub fn row_class(sheet: &[u8], row: u32) -> usize
-    ensures { λ r. ⌜ r ≡ classIn (now (sheet .entry)) row ⌝ }
-{
-    if refusal_of_row(sheet, row) != 0 {
-        return 5;
-    }
-    share_of(row_part(sheet, row)).class
-}
-
-// Word k of the row: function, refusal number and times (0), the arguments (1 to 3) and the answers (4 and 5) as bit patterns; 0 where there is no such word or the row can't be read.
-pub fn row_word(sheet: &[u8], row: u32, k: usize) -> u64
-    ensures { λ r. ⌜ r ≡ wordOf (now (sheet .entry)) row k ⌝ }
-{
-    if k > 5 {
-        return 0;
-    }
-    if refusal_of_row(sheet, row) != 0 {
-        return 0;
-    }
-    get_u64(row_part(sheet, row), 8 * k)
-}
-
-// What the row brings to the total each time it was driven: its first answer where that is finite, else +0; +0 where it can't be read.
-pub fn row_value(sheet: &[u8], row: u32) -> f64
-    ensures { λ r. ⌜ r ≡ valueIn (now (sheet .entry)) row ⌝ }
-{
-    if refusal_of_row(sheet, row) != 0 {
-        return 0.0;
-    }
-    share_of(row_part(sheet, row)).value
 }
 
 // How often the row was driven: once in a sheet that keeps no times, where a blank row never was; 0 where it can't be read.
 pub fn row_times(sheet: &[u8], row: u32) -> u16
     ensures { λ r. ⌜ r ≡ timesOf (now (sheet .entry)) row ⌝ }
 {
-    if refusal_of_row(sheet, row) != 0 {
+    if row_refusal(sheet, row) != 0 {
         return 0;
     }
     driven(row_part(sheet, row), keeps_times(sheet))

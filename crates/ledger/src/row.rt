@@ -11,7 +11,7 @@ ghost use lib.Dec.{eqb};
 ghost use Rattle.laws.specs.Ladder.{when_gives_else_};
 ghost use Rattle.laws.specs.Splice.{splice};
 ghost use Rattle.ledger.specs.Bytes.{fields};
-ghost use Rattle.ledger.specs.Calls.{rowIn, Shared};
+ghost use Rattle.ledger.specs.Calls.{rowIn, Shared, shareOf};
 ghost use Rattle.ledger.specs.Sheet.{rowPlace, functionIn, refusalIn, timesIn, firstIn, kindOf, soundOf, sound};
 
 // The row writer.
@@ -85,14 +85,15 @@ fn kind(x: f64) -> usize
     1
 }
 
-// A row's share of the totals.
+// A row's share of the totals: its class, as `count` numbers them, and 5 where a NaN first answer leaves it none; what it brings each time that it was driven, its first answer
+// where that is finite, else +0; and how often.
 pub struct Share {
     pub class: usize,
     pub value: f64,
     pub times: u16,
 }
 
-pub(crate) fn share_of(row: &[u8]) -> Share
+pub(crate) fn share_in(row: &[u8]) -> Share
     requires { ⌜ length (now row) ≡ 48 ⌝ }
     ensures { λ r. ⌜ Shared (now (row .entry)) (r .class) (r .value) (r .times) ⌝ }
 {
@@ -127,8 +128,22 @@ pub(crate) fn share_of(row: &[u8]) -> Share
     }
 }
 
-// Whether these can be what a row says that was stored.
-fn can_stand(function: u8, refusal: u8, first: f64) -> bool
+// The share of a row's own 48 bytes; other bytes have no class, no value and no times.
+pub fn share_of(row: &[u8]) -> Share
+    ensures { λ r. ⌜ r ≡ shareOf (now (row .entry)) ⌝ }
+{
+    if row.len() != 48 {
+        return Share {
+            class: 5,
+            value: 0.0,
+            times: 0,
+        };
+    }
+    share_in(row)
+}
+
+// Whether these can be what a row says that was stored: refusal 10's row tests.
+pub fn can_stand(function: u8, refusal: u8, first: f64) -> bool
     ensures { λ r. ⌜ r ≡ soundOf function refusal first ⌝ }
 {
     if function > LAST {

@@ -9,9 +9,10 @@ use lib.Pow.{pow-pos}
 use lib.Ieee.{Float, nan, inf, fin, binary64, fits}
 use Rattle.answer.specs.declared.Answer.{Answer}
 use Rattle.answer.specs.declared.Answer.the-variants.{One, Refused}
+use Rattle.answer.specs.Answer.{OneThat}
 use Rattle.bounds.specs.Fractions.{_over_, _⊞_, times}
 use Rattle.logarithm.specs.Series.{S, unitsOf, places, logarithmic, LogarithmWithin}
-use Rattle.bounds.specs.Close.{distanceOf, Close, Answers}
+use Rattle.bounds.specs.Close.{distanceOf, Close}
 use Rattle.logarithm.specs.Logarithm.{partOf, third, logarithmAt, logarithmOf}
 use Rattle.logarithm.specs.laws.Places.{places-middle, places-le, units-pos, units-lt}
 use Rattle.bounds.specs.laws.Held.{Held, wider, sum-held, times-held}
@@ -102,7 +103,7 @@ module _ (N : ℕ) (pos : 0 < N) (small : N < 2 ^ 2098) where
 
 -- ---- the answer
 pub log-within : (c d : ℕ) → c * 2 ^ d ≡ 2 ^ 62 → 512 ≤ c → (x : Float) → T (fits binary64 x) → LogarithmWithin d x (logarithmOf x)
-unfolding LogarithmWithin Answers logarithmOf
+unfolding LogarithmWithin OneThat logarithmOf
 log-within c d h l nan f = refl
 log-within c d h l (inf s) f = refl
 log-within c d h l (fin true m e) f = refl
@@ -113,7 +114,7 @@ log-within c d h l (fin false (suc m) e) f = go (eqb (suc m) 0) (eqb→eq (suc m
     N = unitsOf (fin false (suc m) e)
 
     go : (b : Bool) → (T b → suc m ≡ 0)
-        → cond b (cond b (Refused 12) (One (logarithmAt N)) ≡ Refused 12) (Answers ((distanceOf (places N) 1074 + 1) over 2 ^ d) (logarithmic N) false (cond b (Refused 12) (One (logarithmAt N))))
+        → cond b (cond b (Refused 12) (One (logarithmAt N)) ≡ Refused 12) (OneThat (Close ((distanceOf (places N) 1074 + 1) over 2 ^ d) (logarithmic N) false) (cond b (Refused 12) (One (logarithmAt N))))
     go true z = absurd (let y = z tt in omega arith)
     go false z = log-close N (units-pos false m e f) (units-lt false m e f) c d h l
 

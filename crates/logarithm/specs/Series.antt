@@ -6,8 +6,9 @@ use lib.Dec.{ltb, eqb}
 use lib.Ieee.{Float, nan, inf, fin, up, down, size}
 use Rattle.answer.specs.declared.Answer.{Answer}
 use Rattle.answer.specs.declared.Answer.the-variants.{Refused}
+use Rattle.answer.specs.Answer.{OneThat}
 use Rattle.bounds.specs.Fractions.{Fraction, Difference, _over_, _⊞_, times}
-use Rattle.bounds.specs.Close.{distanceOf, Answers}
+use Rattle.bounds.specs.Close.{distanceOf, Close}
 
 -- k terms of t^n / n + t^(n + 2) / (n + 2) + .. at t = p / q
 unfoldable pub odds : ℕ → ℕ → ℕ → ℕ → Fraction
@@ -48,4 +49,4 @@ LogarithmWithin d (inf s) r = r ≡ Refused 12
 LogarithmWithin d (fin s m e) r =
     let N = unitsOf (fin s m e) in
     let w = places N in
-    cond (s || eqb m 0) (r ≡ Refused 12) (Answers ((distanceOf w 1074 + 1) over 2 ^ d) (logarithmic N) false r)
+    cond (s || eqb m 0) (r ≡ Refused 12) (OneThat (Close ((distanceOf w 1074 + 1) over 2 ^ d) (logarithmic N) false) r)

@@ -9,7 +9,8 @@ use Rattle.laws.specs.Ladder.{when_gives_else_}
 use Rattle.total.specs.Total.{val, limbsOf, addOf}
 use Rattle.ledger.specs.Bytes.{number}
 use Rattle.ledger.specs.Sheet.{Row, refusedClass, finiteClass, classOf, refusalIn, valueOf}
-use Rattle.ledger.specs.Calls.{rowsIn, rowIn, isSheet, firstRejected, timesOf}
+use Rattle.ledger.specs.Calls.{rowsIn, rowIn, isSheet, timesOf}
+use Rattle.inspection.specs.Rows.{firstRejected}
 use Rattle.month.specs.declared.parts.Extreme.{Extreme}
 use Rattle.month.specs.declared.parts.Report.{Report}
 use Rattle.month.specs.declared.parts.Share.{Share}

@@ -45,7 +45,7 @@ pub fn stop(sheet: &[u8]) -> Stop
     if ledger::total_refusal(sheet) != 0 {
         return Stop { refusal: 7, row: 0 };
     }
-    let row = ledger::first_rejected(sheet);
+    let row = inspection::first_rejected(sheet);
     if (row as usize) < ledger::rows_in(sheet) {
         return Stop {
             refusal: 10,

@@ -20,11 +20,11 @@ pub(crate) fn share_of(sheet: &[u8], number: u32, row: u32) -> Share
     ensures { λ r. ⌜ r ≡ shareOf (legAt number (now (sheet .entry)) row) ⌝ }
 {
     Share {
-        class: ledger::row_class(sheet, row),
+        class: inspection::row_class(sheet, row),
         refusal: refusal_of(sheet, row),
         times: ledger::row_times(sheet, row),
-        value: ledger::row_value(sheet, row),
-        pattern: ledger::row_word(sheet, row, 4),
+        value: inspection::row_value(sheet, row),
+        pattern: inspection::row_word(sheet, row, 4),
         sheet: number,
         row: row,
     }

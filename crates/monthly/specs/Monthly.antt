@@ -7,7 +7,8 @@ use lib.Ieee.{binary64, toBits}
 use Rattle.laws.specs.Ascii.{ascii}
 use Rattle.laws.specs.Ladder.{when_gives_else_}
 use Rattle.total.specs.Total.{val, Half, sizeOfTotal, roundTotal}
-use Rattle.text.specs.Text.{decimal, pattern, three, signedHex, space, end}
+use Rattle.text.specs.Text.{decimal, pattern, three, space, end}
+use Rattle.exact.specs.Exact.{signedHex}
 use Rattle.month.specs.declared.parts.Extreme.{Extreme}
 use Rattle.month.specs.declared.parts.Report.{Report}
 

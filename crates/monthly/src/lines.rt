@@ -1,10 +1,10 @@
 // The report's lines.
+use exact::put_whole;
 use month::Extreme;
 use text::put_bytes;
 use text::put_decimal;
 use text::put_pattern;
 use text::put_three;
-use text::put_whole;
 use total::Total;
 ghost use mathlib.Core.List.{[], _∷_, _++_};
 ghost use Prim.Native.Nat.{_+_, _≤_};

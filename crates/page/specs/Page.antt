@@ -1,21 +1,17 @@
 -- What the program prints (01, "it prints exactly"). Definitions only.
 use Prim.Native.Nat.{ℕ, zero, suc}
 use mathlib.Core.List.{List, [], _++_}
-use lib.ListN.{length, take, drop, getD}
+use lib.ListN.{length, getD}
 use lib.Dec.{ltb, eqb}
 use lib.Ieee.{binary64, toBits}
 use Rattle.laws.specs.Ascii.{ascii}
 use Rattle.laws.specs.Ladder.{when_gives_else_}
-use Rattle.ledger.specs.Bytes.{number}
+use Rattle.ledger.specs.Bytes.{patternAt}
 use Rattle.ledger.specs.Sheet.{sizeFor, mostRows}
 use Rattle.ledger.specs.Calls.{rowsIn, readOf, timesOf, totalOf, countOf}
 use Rattle.text.specs.Text.{decimal, pattern, space, end}
 
 -- ---- a row: its number, its function and its refusal number, its two answers, and how often it was driven (02, [8])
-
--- the answer, or the argument, that stands at a place of the row, as its bit pattern
-unfoldable pub answerAt : List ℕ → ℕ → ℕ
-answerAt w at = number (take 8 (drop at w))
 
 unfoldable pub headText : ℕ → ℕ → ℕ → List ℕ
 headText i function refusal = decimal i ++ space ++ decimal function ++ space ++ decimal refusal ++ space
@@ -25,7 +21,7 @@ answersText first second times = pattern first ++ space ++ pattern second ++ spa
 
 -- the line of the row i that stands in the bytes w and was driven so many times
 unfoldable pub rowText : ℕ → List ℕ → ℕ → List ℕ
-rowText i w times = headText i (getD w 0 0) (getD w 1 0) ++ answersText (answerAt w 32) (answerAt w 40) times
+rowText i w times = headText i (getD w 0 0) (getD w 1 0) ++ answersText (patternAt w 32) (patternAt w 40) times
 
 -- a row of the sheet; one that cannot be read has no line
 unfoldable pub rowLine : List ℕ → ℕ → List ℕ

@@ -1,7 +1,6 @@
 // What the program prints, written into a lent buffer: the whole page, or one line instead of it.
 mod row;
 
-pub use row::pattern_at;
 use row::put_row;
 use text::put_bytes;
 use text::put_decimal;

@@ -1,47 +1,14 @@
 // One row's line.
+use ledger::pattern_at;
 use text::put_decimal;
 use text::put_pattern;
 use text::put_three;
 ghost use mathlib.Core.Path.{_≡_};
 ghost use Prim.Native.Nat.{_+_, _≤_, _<_};
 ghost use lib.ListN.{length};
-ghost use Rattle.ledger.specs.Bytes.{number};
 ghost use Rattle.ledger.specs.Sheet.{mostRows};
-ghost use Rattle.page.specs.Page.{answerAt, headText, answersText, rowText, rowLine};
+ghost use Rattle.page.specs.Page.{headText, answersText, rowText, rowLine};
 ghost use Rattle.text.specs.Writing.{Put};
-
-fn wide(b: u8) -> u64
-    ensures { λ r. ⌜ r ≡ b ⌝ }
-{
-    b as u64
-}
-
-// At most eight bytes as a number, the least first.
-fn word(s: &[u8]) -> u64
-    requires { ⌜ length (now s) ≤ 8 ⌝ }
-    ensures { λ r. ⌜ r ≡ number (now (s .entry)) ⌝ }
-{
-    let mut n: u64 = 0;
-    let mut i = s.len();
-    while 0 < i {
-        i -= 1;
-        n = n * 256 + wide(s[i]);
-    }
-    n
-}
-
-// The bit pattern in eight bytes from a place on; bytes that are not there count as zero.
-pub fn pattern_at(s: &[u8], at: usize) -> u64
-    ensures { λ r. ⌜ r ≡ answerAt (now (s .entry)) at ⌝ }
-{
-    if s.len() <= at {
-        return 0;
-    }
-    if s.len() - at < 8 {
-        return word(&s[at..s.len()]);
-    }
-    word(&s[at..at + 8])
-}
 
 // Row, function and refusal number, each with a space after it.
 fn put_head(out: &mut [u8], at: usize, i: u32, function: u8, refusal: u8) -> usize

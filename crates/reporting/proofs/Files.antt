@@ -16,7 +16,7 @@ use Rattle.month.specs.Files.{mostFiles}
 use Rattle.monthly.specs.Monthly.{reportText}
 use Rattle.text.specs.laws.Writing.{front-part}
 use Rattle.files.specs.Calls.{Called, words}
-use Rattle.files.specs.Load.{Load}
+use Rattle.loading.specs.Load.{Load}
 use Rattle.files.specs.declared.sending.Output.{Output}
 use Rattle.files.specs.Output.{Wrote, none}
 use Rattle.files.specs.laws.Outputs.{wrote-both}

@@ -13,7 +13,7 @@ use Rattle.month.specs.Month.{stopOf, startOf, addedOf}
 use Rattle.month.specs.Files.{mostFiles}
 use Rattle.monthly.specs.Monthly.{reportText, stopText, unreadText}
 use Rattle.files.specs.Calls.{Called, counts, words}
-use Rattle.files.specs.Load.{Load}
+use Rattle.loading.specs.Load.{Load}
 use Rattle.files.specs.Notes.{usageLine}
 use Rattle.files.specs.declared.sending.Output.{Output}
 use Rattle.files.specs.Output.{outputOf, Wrote}

@@ -3,8 +3,8 @@ use super::parts::Fate;
 use super::parts::MOST_FILES;
 use super::parts::Month;
 use super::parts::Step;
-use files::MOST;
 use files::WORD;
+use loading::MOST;
 use month::Report;
 ghost use mathlib.Core.Path.{_≡_};
 ghost use mathlib.Core.Bool.{cond};
@@ -20,7 +20,7 @@ fn take_file(report: Report, n: u32) -> Step
     let mut name = [0u8; WORD];
     let mut sheet = [0u8; MOST];
     let length = files::word(n as usize, &mut name);
-    let loaded = files::load(&name[0..length], &mut sheet);
+    let loaded = loading::load(&name[0..length], &mut sheet);
     if !loaded.ok {
         return Step {
             report,

@@ -5,7 +5,7 @@ use lib.ListN.{length, take, drop}
 use lib.Dec.{eqb}
 use Rattle.laws.specs.Ladder.{when_gives_else_}
 use Rattle.answer.specs.declared.Counted.{Counted}
-use Rattle.functions.specs.Functions.{countedOf}
+use Rattle.sheet.specs.Functions.{countedOf}
 use Rattle.ledger.specs.Bytes.{number}
 use Rattle.ledger.specs.Sheet.{Row, functionIn}
 use Rattle.ledger.specs.Calls.{readOf}

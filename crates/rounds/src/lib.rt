@@ -1,10 +1,10 @@
 // The page of legrounds, for each row its number, its function, and the rounds that working out its answer makes; and its run, which is legsheet's but for the page.
+use ending::State;
 use files::Output;
+use ledger::pattern_at;
 use line::LONGEST;
-use outcome::State;
 use page::LARGEST;
 use page::ROOM;
-use page::pattern_at;
 use page::shown;
 use text::put_three;
 ghost use mathlib.Core.Path.{_≡_};
@@ -14,7 +14,7 @@ ghost use Prim.Native.Nat.{_+_, _≤_, _<_};
 ghost use lib.ListN.{length};
 ghost use Rattle.ledger.specs.Sheet.{mostRows};
 ghost use Rattle.text.specs.Writing.{Put};
-ghost use Rattle.outcome.specs.Outcome.{Start, textOf};
+ghost use Rattle.ending.specs.Outcome.{Start, textOf};
 ghost use Rattle.files.specs.Output.{outputOf, Wrote};
 ghost use Rattle.ending.specs.Ending.{doneText};
 ghost use Rattle.runner.specs.Done.{Done};
@@ -28,7 +28,7 @@ fn rounds_in(row: &[u8]) -> usize
     let a = pattern_at(row, 8);
     let b = pattern_at(row, 16);
     let c = pattern_at(row, 24);
-    functions::counted(row[0], a, b, c).rounds
+    sheet::counted(row[0], a, b, c).rounds
 }
 
 // The line of row i: at most 30 bytes.
@@ -66,9 +66,9 @@ fn put_text(failed: bool, st: State, sheet: &[u8; LARGEST], out: &mut [u8; ROOM]
     ensures { λ r. ⌜ r ≤ length (now (out .exit)) ⌝ }
 {
     if failed | st.bad {
-        return outcome::put_instead(failed, st.lines, out);
+        return ending::put_instead(failed, st.lines, out);
     }
-    put_rounds(out, outcome::bytes(st, sheet))
+    put_rounds(out, ending::bytes(st, sheet))
 }
 
 fn write_text(program: &[u8], output: i32, failed: bool, st: State, sheet: &[u8; LARGEST]) -> Output
@@ -85,7 +85,7 @@ pub fn run(program: &[u8], input: i32, output: i32)
 {
     let mut line = [0u8; LONGEST];
     let mut sheet = [0u8; LARGEST];
-    let end = runner::take_all(input, engine::start(), &mut line, &mut sheet);
+    let end = runner::take_all(input, runner::start(), &mut line, &mut sheet);
     let out = write_text(program, output, end.failed, end.st, &sheet);
     ending::tell_cut(program, out);
 }

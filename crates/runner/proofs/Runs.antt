@@ -2,21 +2,21 @@
 use mathlib.Core.Path.{_≡_, refl, sym, ap, _∙_}
 use Prim.Native.Nat.{ℕ, suc, _≤_}
 use native.Mathlib.Omega.{arith}
-use mathlib.Core.Bool.{Bool, true, false, cond, not, _&&_}
+use mathlib.Core.Bool.{Bool, true, false, not, _&&_}
 use mathlib.Core.List.{List, [], _∷_}
 use lib.Dec.{eqb}
 use lib.IntN.{ℤ}
 use lib.ListN.{length, take}
 use borrow.Author.Tests.{not-true, eqb-false}
-use Rattle.outcome.specs.declared.State.{State}
-use Rattle.ledger.specs.Calls.{isSheet, totalRefusal}
+use Rattle.ending.specs.declared.outcome.State.{State}
+use Rattle.ledger.specs.Calls.{isSheet}
 use Rattle.ledger.specs.laws.Refusals.{sheet-length, sheet-few}
 use Rattle.text.specs.Writing.{Put, Puts}
 use Rattle.text.specs.laws.Writing.{put-length}
 use Rattle.page.specs.Page.{largest}
-use Rattle.outcome.specs.Outcome.{Sheet, endedOf}
-use Rattle.engine.specs.Run.{zeros}
-use Rattle.engine.specs.Machine.{longest, Room, room, fixingOf, finishOf, Begins}
+use Rattle.ending.specs.Outcome.{Sheet, endedOf}
+use Rattle.runner.specs.Run.{zeros}
+use Rattle.runner.specs.Machine.{longest, Room, room, fixingOf, finishOf, Begins}
 use Rattle.text.specs.laws.Writing.{front}
 use Rattle.files.specs.Calls.{read}
 use Rattle.runner.specs.Reads.{Next, last, go-on, spent, mostReads, OneRead, SomeReads}
@@ -72,23 +72,6 @@ savable filed failed st m e run =
     }
 
 -- ---- the sheet of a file
-
-is-sheet : (t : Bool) → _≡_ {A = ℕ} (cond (not t) 7 0) 0 → t ≡ true
-is-sheet true e = refl
-is-sheet false e = absurd (omega arith)
-
-no-sheet : (t : Bool) → (_≡_ {A = ℕ} (cond (not t) 7 0) 0 → ⊥) → t ≡ false
-no-sheet true e = absurd (e refl)
-no-sheet false e = refl
-
-module _ (bytes : List ℕ) (q : ℕ) (is : q ≡ totalRefusal bytes) where
-  pub taken-7 : q ≡ 0 → isSheet bytes ≡ true
-  unfolding totalRefusal
-  taken-7 e = is-sheet (isSheet bytes) (sym is ∙ e)
-
-  pub refused-7 : (q ≡ 0 → ⊥) → isSheet bytes ≡ false
-  unfolding totalRefusal
-  refused-7 e = no-sheet (isSheet bytes) (λ z. e (is ∙ z))
 
 pub never : {A : Type 0} → false ≡ true → A
 never e = let z : _≡_ {A = ℕ} 0 1 = cc in absurd (omega arith)

@@ -7,9 +7,9 @@ use lib.Dec.{eqb}
 use lib.IntN.{ℤ}
 use lib.ListN.{take}
 use Rattle.laws.specs.Ladder.{when_gives_else_}
-use Rattle.outcome.specs.declared.State.{State}
-use Rattle.outcome.specs.Outcome.{Outcome, Start, Sheet, endedOf}
-use Rattle.engine.specs.Machine.{Room, room, finishOf, Begins}
+use Rattle.ending.specs.declared.outcome.State.{State}
+use Rattle.ending.specs.Outcome.{Outcome, Start, Sheet, endedOf}
+use Rattle.runner.specs.Machine.{Room, room, finishOf, Begins}
 use Rattle.files.specs.declared.sending.Output.{Output}
 use Rattle.files.specs.Calls.{Read}
 use Rattle.files.specs.Save.{Save}

@@ -6,8 +6,8 @@ use lib.Dec.{ltb, eqb}
 use lib.ListN.{length}
 use Rattle.laws.specs.Ladder.{when_gives_else_}
 use Rattle.page.specs.Page.{failedLine}
-use Rattle.outcome.specs.Outcome.{Outcome, Start, Sheet, Bad, printed}
-use Rattle.engine.specs.Run.{linesOf, ranOf}
+use Rattle.ending.specs.Outcome.{Outcome, Start, Sheet, Bad, printed}
+use Rattle.runner.specs.Run.{linesOf, ranOf}
 
 -- how many whole lines these are
 unfoldable pub lineEnds : List ℕ → ℕ
@@ -16,7 +16,7 @@ lineEnds (b ∷ bs) =
     when eqb b 10 gives suc (lineEnds bs) else
     lineEnds bs
 
--- where a read failed, `input failed after line k` and nothing of the sheet; else what the input comes to, from o on (engine, Run)
+-- where a read failed, `input failed after line k` and nothing of the sheet; else what the input comes to, from o on (Run)
 unfoldable pub writtenOf : (List ℕ → List ℕ) → Outcome → Bool → List ℕ → List ℕ
 writtenOf page o failed input =
     when failed gives failedLine (lineEnds input) else

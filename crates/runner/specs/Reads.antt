@@ -8,7 +8,7 @@ use lib.IntN.{ℤ}
 use lib.ListN.{length}
 use Rattle.files.specs.Calls.{Read, reads, Called}
 use Rattle.files.specs.Reads.{broughtOf, failedOf}
-use Rattle.engine.specs.Machine.{Room, feedOf}
+use Rattle.runner.specs.Machine.{Room, feedOf}
 
 -- ---- one read
 

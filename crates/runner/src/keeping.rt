@@ -18,7 +18,7 @@ pub(crate) fn keep(filed: bool, name: &[u8], end: Turn, sheet: &[u8; LARGEST]) -
     ensures { λ r. ⌜ Keep filed (now (name .entry)) (end .failed) (end .st) (now (sheet .entry)) r ⌝ }
 {
     if filed & (!end.failed & (!end.st.bad & !(end.st.lines == 0))) {
-        return save_sheet(name, outcome::bytes(end.st, sheet));
+        return save_sheet(name, ending::bytes(end.st, sheet));
     }
     true
 }

@@ -1,11 +1,15 @@
 // A whole run: its reads, what is saved, what is written. What the bytes mean is the engine's, and each call of C stands in `files`; this only carries them.
 // No call but `files::save` writes a file, and `save_sheet` alone calls it: so after a bad line or a failed read the file holds what it held.
+mod engine;
 mod keeping;
+mod lines;
 mod reading;
 
+use ending::State;
+use engine::fixing;
+pub use engine::start;
 use keeping::keep;
 use line::LONGEST;
-use outcome::State;
 use page::LARGEST;
 pub use reading::Turn;
 pub use reading::take_all;
@@ -14,9 +18,9 @@ ghost use mathlib.Core.Bool.{true, false};
 ghost use mathlib.Core.List.{[]};
 ghost use Rattle.ledger.specs.Calls.{isSheet};
 ghost use Rattle.page.specs.Page.{pageOf};
-ghost use Rattle.outcome.specs.Outcome.{Start, Sheet};
-ghost use Rattle.engine.specs.Run.{zeros};
-ghost use Rattle.engine.specs.Machine.{longest, room, Begins};
+ghost use Rattle.ending.specs.Outcome.{Start, Sheet};
+ghost use Rattle.runner.specs.Run.{zeros};
+ghost use Rattle.runner.specs.Machine.{longest, room, Begins};
 ghost use Rattle.runner.specs.Done.{begunOf, Done};
 
 // A run from where its state and its memory stand.
@@ -44,15 +48,7 @@ fn run_new(program: &[u8], input: i32, output: i32, filed: bool, name: &[u8])
     ensures { λ _. ⌜ Done input output pageOf filed (now (name .entry)) Start ⌝ }
 {
     let mut sheet = [0u8; LARGEST];
-    run_from(
-        program,
-        input,
-        output,
-        filed,
-        name,
-        engine::start(),
-        &mut sheet,
-    );
+    run_from(program, input, output, filed, name, start(), &mut sheet);
 }
 
 // One run, from one descriptor to another.
@@ -85,7 +81,7 @@ pub fn run_on(program: &[u8], input: i32, output: i32, name: &[u8], bytes: &[u8]
         output,
         true,
         name,
-        engine::fixing(bytes.len()),
+        fixing(bytes.len()),
         &mut sheet,
     );
     true

@@ -1,10 +1,12 @@
 // The whole input, taken line by line.
+use super::engine::feed;
+use super::engine::finish;
+use ending::State;
 use line::LONGEST;
-use outcome::State;
 use page::LARGEST;
 ghost use mathlib.Core.Path.{_≡_};
 ghost use Prim.Native.Nat.{suc, _<_};
-ghost use Rattle.engine.specs.Machine.{room};
+ghost use Rattle.runner.specs.Machine.{room};
 ghost use Rattle.files.specs.Calls.{read};
 ghost use Rattle.runner.specs.Reads.{Next, mostReads, OneRead, SomeReads};
 ghost use Rattle.runner.specs.Done.{Took};
@@ -28,7 +30,7 @@ fn take_part(
     ensures { λ r. ⌜ Next (room st (now (line .entry)) (now (sheet .entry))) (read got (now (part .entry))) (room (r .st) (now (line .exit)) (now (sheet .exit))) (r .more) (r .failed) ⌝ }
 {
     let n = io::count(got, part);
-    let next = engine::feed(st, &part[..n], line, sheet);
+    let next = feed(st, &part[..n], line, sheet);
     Turn {
         st: next,
         more: (0 < n) & !next.bad,
@@ -86,7 +88,7 @@ pub fn take_all(
     if turn.failed {
         return turn;
     }
-    let end = engine::finish(turn.st, line, sheet);
+    let end = finish(turn.st, line, sheet);
     Turn {
         st: end,
         more: false,

@@ -7,7 +7,7 @@ use lib.Ieee.{binary64, toBits}
 use Rattle.laws.specs.Ladder.{when_gives_else_}
 use Rattle.answer.specs.declared.Answer.{Answer}
 use Rattle.answer.specs.Answer.{refusalOf, firstOf, secondOf}
-use Rattle.functions.specs.Functions.{evaluateOf, usedOf}
+use Rattle.sheet.specs.Functions.{evaluateOf, usedOf}
 use Rattle.ledger.specs.Sheet.{Row, withTimes, rowBytes, blankRow}
 use Rattle.ledger.specs.Calls.{rowsIn, isSheetOf, damaged, rungs, edited}
 use Rattle.sheet.specs.declared.Entry.{Entry}

@@ -1,10 +1,15 @@
-// The leg sheet's edits, in bytes that the caller lends (01, "The leg sheet"): a row worked out by the function of its number, and put in its place.
-// Each call answers for any bytes; a refused one changes none.
+// The leg sheet (01): the functions by their numbers, and its edits, in bytes that the caller lends: a row worked out by the function of its number, and put in
+// its place. Each call answers for any bytes; a refused edit changes none.
 use row::words;
 ghost use mathlib.Core.Path.{_≡_};
 ghost use Rattle.sheet.specs.Edit.{cleared, editRefusal, editOf};
 
+mod functions;
 mod row;
+
+pub use functions::counted;
+pub use functions::evaluate;
+pub use functions::used;
 
 // What is entered in a row: a function's number, its arguments' bit patterns, and how often the leg was driven.
 pub struct Entry {

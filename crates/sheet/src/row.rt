@@ -1,5 +1,7 @@
 // The words of the row that an edit stores.
 use crate::Entry;
+use crate::functions::evaluate;
+use crate::functions::used;
 ghost use mathlib.Core.Path.{_≡_};
 ghost use Rattle.ledger.specs.Bytes.{fields};
 ghost use Rattle.sheet.specs.Edit.{keep, keptOf, answered, rowOf};
@@ -8,7 +10,7 @@ ghost use Rattle.sheet.specs.Edit.{keep, keptOf, answered, rowOf};
 fn argument(function: u8, k: u8, x: u64) -> u64
     ensures { λ r. ⌜ r ≡ keep function k x ⌝ }
 {
-    if k < functions::used(function) { x } else { 0 }
+    if k < used(function) { x } else { 0 }
 }
 
 fn kept(entry: Entry) -> Entry
@@ -30,7 +32,7 @@ fn kept(entry: Entry) -> Entry
 fn worked(entry: Entry) -> [u64; 6]
     ensures { λ r. ⌜ fields 8 r ≡ answered entry ⌝ }
 {
-    let z = answer::read(functions::evaluate(entry.function, entry.a, entry.b, entry.c));
+    let z = answer::read(evaluate(entry.function, entry.a, entry.b, entry.c));
     let first = bits::to_pattern(z.first);
     let second = bits::to_pattern(z.second);
     [

@@ -6,7 +6,7 @@ use lib.ListN.{length}
 use lib.Ieee.{binary64, toBits}
 use Rattle.laws.specs.Ladder.{when_gives_else_}
 use Rattle.answer.specs.Answer.{refusalOf, firstOf, secondOf}
-use Rattle.functions.specs.Functions.{evaluateOf}
+use Rattle.sheet.specs.Functions.{evaluateOf}
 use Rattle.ledger.specs.Sheet.{rowPlace}
 use Rattle.ledger.specs.Calls.{rowRefusal}
 

@@ -13,8 +13,9 @@ ghost use Rattle.answer.specs.Answer.{valueOf};
 ghost use Rattle.angle.specs.Sine.{sineOf};
 ghost use Rattle.angle.specs.Cosine.{cosineOf};
 ghost use Rattle.logarithm.specs.Logarithm.{logarithmOf};
-ghost use Rattle.functions.specs.Functions.{countedOf};
-ghost use Rattle.ledger.specs.Calls.{blankRefusal, blankOf, rowRefusal, classIn, timesOf, totalRefusal, totalOf, countOf};
+ghost use Rattle.sheet.specs.Functions.{countedOf};
+ghost use Rattle.ledger.specs.Calls.{blankRefusal, blankOf, rowRefusal, timesOf, totalRefusal, totalOf, countOf};
+ghost use Rattle.inspection.specs.Rows.{classIn};
 ghost use Rattle.sheet.specs.Edit.{editRefusal, editOf};
 ghost use Rattle.conversion.specs.declared.Stop.{Stop};
 ghost use Rattle.conversion.specs.Conversion.{stopOf, convertedOf};
@@ -103,7 +104,7 @@ pub extern "C" fn sm_evaluate(function: u8, a: u64, b: u64, c: u64, out: &mut [u
     if out.len() != 2 {
         return 7;
     }
-    let z = answer::read(functions::evaluate(function, a, b, c));
+    let z = answer::read(sheet::evaluate(function, a, b, c));
     out[0] = bits::to_pattern(z.first);
     out[1] = bits::to_pattern(z.second);
     z.refusal
@@ -114,7 +115,7 @@ pub extern "C" fn sm_evaluate(function: u8, a: u64, b: u64, c: u64, out: &mut [u
 pub extern "C" fn sm_rounds(function: u8, a: u64, b: u64, c: u64) -> usize
     ensures { λ r. ⌜ r ≡ countedOf function a b c .rounds ⌝ }
 {
-    functions::counted(function, a, b, c).rounds
+    sheet::counted(function, a, b, c).rounds
 }
 
 #[no_mangle]
@@ -173,7 +174,7 @@ pub extern "C" fn sm_row_refusal(sheet: &[u8], row: u32) -> u8
 pub extern "C" fn sm_row_class(sheet: &[u8], row: u32) -> usize
     ensures { λ r. ⌜ r ≡ classIn (now (sheet .entry)) row ⌝ }
 {
-    ledger::row_class(sheet, row)
+    inspection::row_class(sheet, row)
 }
 
 // How often the row was driven, as its bytes say; in a sheet that says 1, whose rows keep no times, once, and a blank row never. 0 where the row can't be read.

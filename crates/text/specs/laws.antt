@@ -1,5 +1,5 @@
--- Laws of digits, of pieces of text, of lines, and of numbers that take many limbs.
+-- Laws of room, of digits, of pieces of text, and of lines.
+pub mod Room
 pub mod Digits
 pub mod Writing
 pub mod Lines
-pub mod Hex

@@ -1,8 +1,5 @@
 // Pieces of text, one after the other: each is put at a place of a lent buffer, and the answer is the place after it.
 // Where the buffer has not the room that a piece may need, nothing is put and the place stays.
-mod whole;
-
-pub use whole::put_whole;
 ghost use mathlib.Core.Path.{_≡_};
 ghost use mathlib.Core.List.{[], _∷_, _++_};
 ghost use Prim.Native.Nat.{_+_, _≤_, _<_};
@@ -12,7 +9,7 @@ ghost use Rattle.text.specs.Text.{glyphOf, digitsOf, decimal, pattern, t
 ghost use Rattle.text.specs.Writing.{Put, Puts};
 
 // Whether a buffer of this size has no room for so many bytes from a place on. The place and the room may be too large to be added.
-fn lacks(size: usize, at: usize, room: usize) -> bool
+pub fn lacks(size: usize, at: usize, room: usize) -> bool
     ensures { λ r. ⌜ r ≡ ltb size (at + room) ⌝ }
 {
     if size < room {
@@ -93,6 +90,16 @@ pub fn put_pattern(out: &mut [u8], at: usize, n: u64, after: u8) -> usize
     ensures { λ r. ⌜ Puts (now (out .entry)) (now (out .exit)) at r 17 (pattern n ++ (after ∷ [])) ⌝ }
 {
     put_number(out, at, true, 16, 16, n, after)
+}
+
+// A number in hex: all 16 digits, or none in front of the number.
+pub fn put_hex(out: &mut [u8], at: usize, all: bool, n: u64) -> usize
+    ensures { λ r. ⌜ Puts (now (out .entry)) (now (out .exit)) at r 16 (digitsOf all 16 16 n) ⌝ }
+{
+    if lacks(out.len(), at, 16) {
+        return at;
+    }
+    put_digits(out, at, all, 16, 16, n)
 }
 
 // Three numbers, a space between them, and the byte after the last.

@@ -12,9 +12,10 @@ use Rattle.text.specs.Text.{decimal, end}
 use Rattle.conversion.specs.declared.Stop.{Stop}
 use Rattle.conversion.specs.Conversion.{stopOf, convertedOf}
 use Rattle.files.specs.Calls.{Called, counts, words}
-use Rattle.files.specs.Load.{Load}
+use Rattle.loading.specs.Load.{Load}
 use Rattle.files.specs.Save.{Save}
-use Rattle.files.specs.Notes.{cannotRead, cannotWrite, refused7, usageLine}
+use Rattle.files.specs.Notes.{cannotWrite, usageLine}
+use Rattle.loading.specs.Notes.{cannotRead, refused7}
 use Rattle.files.specs.declared.sending.Output.{Output}
 use Rattle.files.specs.Output.{outputOf, Wrote}
 

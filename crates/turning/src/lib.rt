@@ -1,8 +1,8 @@
 // A sheet file turned into one of the other kind: all that legforth and legback do (02, [9]). The second file is written by one call, and only with a sheet that was accepted and converted.
 use conversion::Stop;
-use files::MOST;
 use files::Output;
 use files::WORD;
+use loading::MOST;
 ghost use mathlib.Core.Path.{_≡_};
 ghost use Rattle.ledger.specs.Calls.{rowsIn};
 ghost use Rattle.files.specs.Save.{Save};
@@ -23,7 +23,7 @@ fn put_stop(out: Output, stop: Stop, rows: u64) -> Output
     ensures { λ r. ⌜ Wrote out (stopLine stop rows) r ⌝ }
 {
     if stop.refusal == 7 {
-        return files::refused_7(out);
+        return loading::refused_7(out);
     }
     if stop.refusal == 17 {
         return put_number(out, b"refused 17 row ", stop.row as u64);
@@ -71,13 +71,13 @@ fn turn(program: &[u8], output: i32, from: &[u8], to: &[u8], forth: bool) -> Out
 {
     let mut sheet = [0u8; MOST];
     let out = files::begin(output);
-    let loaded = files::load(from, &mut sheet);
+    let loaded = loading::load(from, &mut sheet);
     if !loaded.ok {
         files::tell(
             program,
             b": nothing was converted; look at the first name, and whether that file may be read\n",
         );
-        return files::cannot_read(out, from);
+        return loading::cannot_read(out, from);
     }
     let n = loaded.length;
     settle(program, out, &mut sheet[0..n], to, forth)

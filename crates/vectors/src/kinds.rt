@@ -112,7 +112,7 @@ fn agrees_remainder(s: &[u8]) -> bool {
 fn agrees_complete(s: &[u8]) -> bool {
     let head = word(s, 0);
     let function = (head / 256 % 256) as u8;
-    let z = answer::read(functions::evaluate(function, word(s, 17), 0, 0));
+    let z = answer::read(sheet::evaluate(function, word(s, 17), 0, 0));
     let refusal = (z.refusal as u64) == head % 256;
     let values = (bits::to_pattern(z.first) == word(s, 68))
         & (bits::to_pattern(z.second) == word(s, 85));
@@ -122,7 +122,7 @@ fn agrees_complete(s: &[u8]) -> bool {
 // The first word is a function of the sheet, the last the rounds of all recipes asked for it.
 fn agrees_rounds(s: &[u8]) -> bool {
     let function = (word(s, 0) % 256) as u8;
-    let z = functions::counted(function, word(s, 17), word(s, 34), 0);
+    let z = sheet::counted(function, word(s, 17), word(s, 34), 0);
     (z.rounds as u64) == word(s, 51)
 }
 
@@ -139,7 +139,7 @@ fn function_of(kind: u8) -> u8 {
 
 // Within 2^-36 of the reference, relative; a zero must be a zero.
 fn agrees_near(kind: u8, s: &[u8]) -> Shown {
-    let z = answer::read(functions::evaluate(function_of(kind), word(s, 0), word(s, 17), 0));
+    let z = answer::read(sheet::evaluate(function_of(kind), word(s, 0), word(s, 17), 0));
     let y = float(s, 34);
     within(
         z.refusal == 0,

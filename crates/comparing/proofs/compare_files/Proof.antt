@@ -6,8 +6,8 @@ use native.Mathlib.Nat.{sub-zero}
 use mir.Syntax.{w32}
 use mir.ValLaws.{toZ-ofZ}
 use borrow.Author.Tests.{not-true, not-false}
-use Rattle.files.specs.laws.Loads.{loaded-as}
-use Rattle.files.specs.Notes.{cannotRead}
+use Rattle.loading.specs.laws.Loads.{loaded-as}
+use Rattle.loading.specs.Notes.{cannotRead}
 use Rattle.files.specs.declared.sending.Output.{Output}
 use Rattle.files.specs.Output.{outputOf, Wrote}
 use Rattle.comparing.specs.Comparing.{old-unread, new-unread, both-read}

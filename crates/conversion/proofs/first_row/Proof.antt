@@ -5,8 +5,8 @@ use Prim.Native.Nat.{_-_, _≤_}
 use native.Mathlib.Nat.{sub-zero}
 use native.Mathlib.Omega.{arith}
 use native.Mathlib.Numerals.{add-one}
-use Rattle.ledger.specs.Calls.{firstFrom}
-use Rattle.ledger.specs.laws.First.{first-here, first-later, first-none}
+use Rattle.inspection.specs.Rows.{firstFrom}
+use Rattle.inspection.specs.laws.First.{first-here, first-later, first-none}
 use Rattle.conversion.specs.Conversion.{tested}
 use Rattle.conversion.proofs.first_row.Statement.{statement}
 use Rattle.conversion.proofs.first_row.Tie as tie

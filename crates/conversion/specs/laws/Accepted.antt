@@ -7,7 +7,8 @@ use native.Mathlib.Nat.{add-zero, add-suc, suc-add, zero-add, le-of-suc-le-suc}
 use native.Mathlib.Omega.{arith}
 use borrow.Author.Tests.{eq-eqb, le-ltb, ltb-true, ltb-false}
 use lib.Dec.{ltb}
-use Rattle.ledger.specs.Calls.{rowsIn, isSheetOf, firstFrom}
+use Rattle.ledger.specs.Calls.{rowsIn, isSheetOf}
+use Rattle.inspection.specs.Rows.{firstFrom}
 use Rattle.conversion.specs.declared.Stop.{Stop}
 use Rattle.conversion.specs.Conversion.{saysBefore, firstOf, rejected, uncounted, oftener, stopped, stopOf, turnedSheet, convertedOf}
 

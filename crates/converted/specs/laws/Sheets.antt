@@ -12,10 +12,11 @@ use lib.Seq.{take-at, drop-at, drop-drop, take-append-le, drop-append-le, length
 use lib.Ieee.{Float, nan, inf, fin}
 use Rattle.ledger.specs.Bytes.{bytes, number, read}
 use Rattle.ledger.specs.Sheet.{Row, withoutTimes, withTimes, mostRows, rowPlace, sizeFor, entries, functionIn, refusalIn, timesIn, firstIn, kindOf, sound, classOf}
-use Rattle.ledger.specs.Calls.{Sized, rowsIn, rowIn, countsIn, equal, isSheetOf, isSheet, rowRefusal, totalRefusal, soundRow, classIn, timesOf, countOf}
+use Rattle.ledger.specs.Calls.{Sized, rowsIn, rowIn, countsIn, equal, isSheetOf, isSheet, rowRefusal, totalRefusal, timesOf, countOf}
+use Rattle.inspection.specs.Rows.{soundRow, classIn}
 use Rattle.laws.specs.laws.Splices.{drop-past}
 use Rattle.ledger.specs.laws.Fields.{length-bytes, number-bytes}
-use Rattle.ledger.specs.laws.Refusals.{rows-of, sheet-of-few, sheet-of-length, says}
+use Rattle.ledger.specs.laws.Refusals.{rows-of, length-row, sheet-of-few, sheet-of-length, says}
 use Rattle.conversion.specs.declared.Stop.{Stop}
 use Rattle.conversion.specs.Conversion.{saysBefore, saysAfter, once, turned, turnedRows, turnedSheet, rejected, uncounted, oftener, stopped, stopOf, convertedOf}
 use Rattle.conversion.specs.laws.Rows.{held, length-turned, class-turned, sound-turned, times-turned, turned-back}
@@ -261,8 +262,7 @@ module _ (forth : Bool) (s : List ℕ) (h : isSheetOf (saysBefore forth) s ≡ t
 
   module _ (i : ℕ) (g : i < rowsIn s) where
     row-48 : length (rowIn s i) ≡ 48
-    unfolding rowIn
-    row-48 = length-take-le 48 (drop (rowPlace i) s) (rw (length-drop (rowPlace i) s) (omega (arith, sized)))
+    row-48 = length-row s sized i g
 
     in-t : i < rowsIn t
     in-t = rw rows-t g

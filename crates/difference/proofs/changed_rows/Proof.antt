@@ -7,9 +7,8 @@ use native.Mathlib.Numerals.{add-one}
 use native.Mathlib.Omega.{arith}
 use borrow.Author.Needs.{needs}
 use Rattle.ledger.specs.Calls.{rowsIn, isSheet}
-use Rattle.ledger.specs.laws.Refusals.{sheet-few}
+use Rattle.ledger.specs.laws.Refusals.{sheet-few, no-sheet, a-sheet}
 use Rattle.difference.specs.Difference.{agree, changes, rowsOf}
-use Rattle.difference.proofs.Stops.{no-sheet, a-sheet}
 use Rattle.difference.proofs.changed_rows.Statement.{statement}
 use Rattle.difference.proofs.changed_rows.Tie as tie
 

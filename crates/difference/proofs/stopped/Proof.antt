@@ -1,6 +1,7 @@
 -- Each test shows a rung passed.
 use mathlib.Core.Path.{_∙_, sym}
-use Rattle.difference.proofs.Stops.{no-sheet, a-sheet, stop-old, stop-new, stop-counts, stop-old-row, stop-new-row}
+use Rattle.ledger.specs.laws.Refusals.{no-sheet, a-sheet}
+use Rattle.difference.proofs.Stops.{stop-old, stop-new, stop-counts, stop-old-row, stop-new-row}
 use borrow.Author.Needs.{needs}
 use Rattle.difference.proofs.stopped.Statement.{statement}
 use Rattle.difference.proofs.stopped.Tie as tie

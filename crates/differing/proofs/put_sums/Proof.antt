@@ -3,11 +3,13 @@ use native.Mathlib.Omega.{arith}
 use mathlib.Core.List.{_++_}
 use Rattle.laws.specs.Ascii.{ascii}
 use Rattle.total.specs.Total.{val}
-use Rattle.text.specs.Text.{signedHex, end}
+use Rattle.text.specs.Text.{end}
+use Rattle.exact.specs.Exact.{signedHex}
 use Rattle.text.specs.laws.Digits.{field-most}
 use Rattle.text.specs.laws.Writing.{placed-both}
 use Rattle.differing.specs.Differing.{last}
-use Rattle.differing.proofs.Pieces.{two-put, whole-most}
+use Rattle.exact.specs.laws.Hex.{whole-most}
+use Rattle.differing.proofs.Pieces.{two-put}
 use borrow.Author.Needs.{needs}
 use Rattle.differing.proofs.put_sums.Statement.{statement}
 use Rattle.differing.proofs.put_sums.Tie as tie
@@ -37,7 +39,7 @@ returns : tie.Need-returns
 returns c =
     let a = c .before .before .before .before .before .before .before .before .before .before .before .before .before .before .before .before .before .before .before .before .args in
     let n = signedHex (a .negative) (val (a .t3)) ++ end in
-    let first = placed-both (a .out .now) 0 11 546 11 546 (ascii "difference ") n (omega arith, whole-most (a .negative) (val (a .t3))) (omega arith, omega arith) (omega arith, omega arith)
+    let first = placed-both (a .out .now) 0 11 546 11 546 (ascii "difference ") n (omega arith, whole-most (a .negative) (val (a .t3)) 10) (omega arith, omega arith) (omega arith, omega arith)
     (c .before .before .before .before .before .before .before .before .before .before .before .before .before .before .before .before .put-bytes .ensures) (c .before .before .before .before .before .before .before .before .before .before .before .put-whole .ensures) in
     let second = placed-both _ _ 5 21 5 21 (ascii "rows ") (last (a .rows)) (omega arith, field-most (a .rows) 10) (omega arith, omega arith) (omega (arith, first .1, first .2), omega (arith, first .1, first .2))
     (c .before .before .before .before .before .before .put-bytes2 .ensures) (c .before .before .put-decimal .ensures) in

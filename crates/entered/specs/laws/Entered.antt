@@ -15,11 +15,11 @@ use Rattle.demands.specs.Edits.{Edit, answer, after, run, answerIn, accepted, f
 use Rattle.demands.specs.Demand3.{demand-3}
 use Rattle.text.specs.Text.{decimal}
 use Rattle.page.specs.Page.{pageOf, badLine}
-use Rattle.outcome.specs.Outcome.{Outcome, Start, Sheet, Bad, printed}
-use Rattle.engine.specs.Run.{zeros, countOn, editOn, lineOn, linesOn, linesOf, closed, ranOf, runOf}
+use Rattle.ending.specs.Outcome.{Outcome, Start, Sheet, Bad, printed}
+use Rattle.runner.specs.Run.{zeros, countOn, editOn, lineOn, linesOn, linesOf, closed, ranOf, runOf}
 use Rattle.entered.specs.Input.{textOf, editLines, sheetText, AllFit, Fits, refusedLine}
-use Rattle.engine.specs.laws.Lengths.{length-zeros}
-use Rattle.engine.specs.laws.Whole.{lines-bad}
+use Rattle.runner.specs.laws.Lengths.{length-zeros}
+use Rattle.runner.specs.laws.Parts.{lines-bad}
 use Rattle.entered.specs.laws.Written.{read-decimal, written, from-decimal, from-less, cut-before, no-end}
 
 -- ---- its lines

@@ -5,8 +5,8 @@ use borrow.Author.Needs.{needs}
 use Rattle.ledger.proofs.read_row.Statement.{statement}
 use Rattle.ledger.proofs.read_row.Tie as tie
 
-refusal-of-row-requires : tie.Need-refusal-of-row-requires
-refusal-of-row-requires c κs = search needs
+row-refusal-requires : tie.Need-row-refusal-requires
+row-refusal-requires c κs = search needs
 
 sub-result : tie.Need-sub-result
 sub-result c = search needs
@@ -19,20 +19,20 @@ part-result-end c = search needs
 
 returns : tie.Need-returns
 unfolding readOf
-returns c = let q = c .before .before .refusal-of-row in rw (unreadable _ _ (q .result) (q .ensures) (c .before .if1 .taken))
+returns c = let q = c .before .before .row-refusal in rw (unreadable _ _ (q .result) (q .ensures) (c .before .if1 .taken))
 
 row-part-requires : tie.Need-row-part-requires
-row-part-requires c κs = let q = c .before .refusal-of-row in read-room _ _ (q .result) (q .ensures) (c .if1 .left)
+row-part-requires c κs = let q = c .before .row-refusal in read-room _ _ (q .result) (q .ensures) (c .if1 .left)
 
 returns-2 : tie.Need-returns-2
 unfolding readOf
-returns-2 c = let q = c .before .before .refusal-of-row in rw (row-read _ _ (q .result) (q .ensures) (c .before .if1 .left)) (c .row-part .ensures)
+returns-2 c = let q = c .before .before .row-refusal in rw (row-read _ _ (q .result) (q .ensures) (c .before .if1 .left)) (c .row-part .ensures)
 
 pub read-row-spec : {M : Type 1} → statement M
 read-row-spec =
     tie.close
     (tie.spec
-    refusal-of-row-requires
+    row-refusal-requires
     sub-result
     part-result-start
     part-result-end

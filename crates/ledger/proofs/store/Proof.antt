@@ -7,13 +7,13 @@ use Rattle.laws.specs.Splice.{splice}
 use Rattle.ledger.specs.Bytes.{fields}
 use Rattle.ledger.specs.Sheet.{rowPlace, timesIn, classOf, valueOf}
 use Rattle.ledger.specs.Calls.{rowsIn, rowIn, revised}
-use Rattle.ledger.specs.laws.Refusals.{undamaged}
+use Rattle.ledger.specs.laws.Refusals.{length-row, undamaged}
 use Rattle.ledger.specs.laws.Rows.{length-words}
-use Rattle.ledger.proofs.Places.{length-row, row-back, edited-is, revisable}
+use Rattle.ledger.proofs.Places.{row-back, edited-is, revisable}
 use borrow.Author.Needs.{needs}
 use Rattle.ledger.proofs.row.put_row.Reads as put-row-reads
 use Rattle.ledger.proofs.row.row_part.Reads as row-part-reads
-use Rattle.ledger.proofs.row.share_of.Reads as share-of-reads
+use Rattle.ledger.proofs.row.share_in.Reads as share-in-reads
 use Rattle.ledger.proofs.totals.revise.Reads as revise-reads
 use Rattle.ledger.proofs.store.Statement.{statement}
 use Rattle.ledger.proofs.store.Tie as tie
@@ -23,8 +23,8 @@ use Rattle.ledger.proofs.store.Lts as lts
 row-part-requires : tie.Need-row-part-requires
 row-part-requires c κs = search needs
 
-share-of-requires : tie.Need-share-of-requires
-share-of-requires c κs =
+share-in-requires : tie.Need-share-in-requires
+share-in-requires c κs =
     let a = c .before .before .before in
     ap length (c .row-part .ensures) ∙ length-row (a .args .sheet .now) (a .pre .0) (a .args .row) (a .pre .2)
 
@@ -34,8 +34,8 @@ put-row-requires c κs = search needs
 row-part-requires-2 : tie.Need-row-part-requires-2
 row-part-requires-2 c κs = search needs
 
-share-of-requires-2 : tie.Need-share-of-requires-2
-share-of-requires-2 c κs =
+share-in-requires-2 : tie.Need-share-in-requires-2
+share-in-requires-2 c κs =
     let a = c .before .before .before .before .before .before .before .before .before .before in
     let w = fields 8 (a .args .words) in
     let e : length w ≡ 48 = length-words (a .args .words) (a .good .1 .1 .0 .1 .0 .1) in
@@ -48,10 +48,10 @@ revise-requires c κs =
     let i = a .args .row in
     let w = fields 8 (a .args .words) in
     let e : length w ≡ 48 = length-words (a .args .words) (a .good .1 .1 .0 .1 .0 .1) in
-    let old = c .before .before .before .before .before .before .before .before .share-of .ensures .0 ∙ ap classOf (c .before .before .before .before .before .before .before .before .before .row-part .ensures) in
+    let old = c .before .before .before .before .before .before .before .before .share-in .ensures .0 ∙ ap classOf (c .before .before .before .before .before .before .before .before .before .row-part .ensures) in
     let back = c .before .before .row-part2 .ensures ∙ ap (λ (l : List ℕ). rowIn l i) (c .before .before .before .before .before .before .put-row .ensures) ∙ row-back s w i (a .pre .0) (a .pre .2) e in
     rw (c .before .before .before .before .before .before .put-row .ensures)
-    (revisable s w i (a .pre .0) (a .pre .2) e _ _ (undamaged s i (a .pre .3)) (a .pre .1) old (c .before .share-of2 .ensures .0 ∙ ap classOf back) (a .pre .4))
+    (revisable s w i (a .pre .0) (a .pre .2) e _ _ (undamaged s i (a .pre .3)) (a .pre .1) old (c .before .share-in2 .ensures .0 ∙ ap classOf back) (a .pre .4))
 
 same-length : tie.Need-same-length
 same-length c = search needs
@@ -63,8 +63,8 @@ returns c =
     let i = a .args .row in
     let w = fields 8 (a .args .words) in
     let e : length w ≡ 48 = length-words (a .args .words) (a .good .1 .1 .0 .1 .0 .1) in
-    let old = c .before .before .before .before .before .before .before .before .before .before .before .share-of .ensures in
-    let new = c .before .before .before .before .share-of2 .ensures in
+    let old = c .before .before .before .before .before .before .before .before .before .before .before .share-in .ensures in
+    let new = c .before .before .before .before .share-in2 .ensures in
     let put = c .before .before .before .before .before .before .before .before .before .put-row .ensures in
     let was = c .before .before .before .before .before .before .before .before .before .before .before .before .row-part .ensures in
     let is = c .before .before .before .before .before .row-part2 .ensures ∙ ap (λ (l : List ℕ). rowIn l i) put ∙ row-back s w i (a .pre .0) (a .pre .2) e in
@@ -77,10 +77,10 @@ store-spec =
     tie.close
     (tie.spec
     row-part-requires
-    share-of-requires
+    share-in-requires
     put-row-requires
     row-part-requires-2
-    share-of-requires-2
+    share-in-requires-2
     revise-requires
     same-length
     returns)

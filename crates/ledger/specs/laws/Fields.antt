@@ -1,12 +1,13 @@
 -- Laws of numbers in bytes: what is written is read back, and two parts are the first and then the second. Assumes nothing.
 use mathlib.Core.Path.{_≡_, refl, ap, _∙_, sym}
 use mathlib.Core.List.{List, [], _∷_, _++_, append-assoc}
-use Prim.Native.Nat.{ℕ, zero, suc, _+_, _*_, _/_, _^_, _<_}
+use Prim.Native.Nat.{ℕ, zero, suc, _+_, _*_, _/_, _^_, _≤_, _<_}
 use native.Mathlib.Nat.{mod-add-div, div-lt-iff-lt-mul, mul-suc, mul-zero, add-comm, pow-suc, mul-comm, mul-assoc}
 use native.Mathlib.Omega.{arith}
-use lib.ListN.{length, drop, getD, length-append}
+use borrow.Author.Tests.{le-leb, lt-leb}
+use lib.ListN.{length, take, drop, getD, length-append}
 use lib.Seq.{take-at, drop-at}
-use Rattle.ledger.specs.Bytes.{bytes, number, fields, read}
+use Rattle.ledger.specs.Bytes.{bytes, number, fields, read, patternAt}
 
 -- ---- lengths
 pub length-bytes : (k n : ℕ) → length (bytes k n) ≡ k
@@ -57,3 +58,13 @@ number-append (b ∷ p) q =
     rw (number-append p q, pow-suc 256 (length p), mul-comm (256 ^ length p) 256, mul-assoc 256 (256 ^ length p) (number q)) (omega arith)
 
 -- all of a list written anew
+
+-- ---- eight bytes from a place on
+module _ (s : List ℕ) (at : ℕ) where
+  pub pattern-there : at + 8 ≤ length s → patternAt s at ≡ number (take 8 (drop at s))
+  unfolding patternAt
+  pattern-there h = rw (le-leb _ _ h)
+
+  pub pattern-none : length s < at + 8 → patternAt s at ≡ 0
+  unfolding patternAt
+  pattern-none h = rw (lt-leb _ _ h)

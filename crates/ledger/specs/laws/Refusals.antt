@@ -7,13 +7,14 @@ use native.Mathlib.Nat.{pos-of-ne-zero}
 use native.Mathlib.Omega.{arith}
 use borrow.Author.Tests.{eqb-true, eqb-false, leb-true, leb-false, ltb-false, not-true}
 use lib.Dec.{leb, ltb, eqb}
-use lib.ListN.{length, take, drop, getD, set, length-append, length-set}
+use lib.ListN.{length, take, drop, getD, set, length-append, length-drop, length-set}
+use lib.Seq.{length-take-le}
 use lib.Ieee.{Float, nan, inf, fin, isNan}
 use Rattle.answer.specs.Numbers.{last, stored}
 use Rattle.ledger.specs.Bytes.{number, read}
 use Rattle.ledger.specs.laws.Fields.{length-read, length-bytes, length-fields}
 use Rattle.ledger.specs.Sheet.{Row, withdrawn, withoutTimes, withTimes, mostRows, rowPlace, sizeFor, entries, functionIn, refusalIn, firstIn, soundOf, sound, kindOf, classOf, totals}
-use Rattle.ledger.specs.Calls.{Sized, rowsIn, rowIn, countsIn, equal, isSheetOf, isSheet, plus, miscounted, damaged, rowRungs, functionRungs, rungs, recount, rowRefusal, placeRefusal, blankRefusal}
+use Rattle.ledger.specs.Calls.{Sized, rowsIn, rowIn, countsIn, equal, isSheetOf, isSheet, plus, miscounted, damaged, rowRungs, functionRungs, rungs, recount, totalRefusal, rowRefusal, placeRefusal, blankRefusal}
 
 -- ---- tests joined
 and-3 : (a b c : Bool) → (a && (b && c)) ≡ true → (a ≡ true) × (b ≡ true) × (c ≡ true)
@@ -47,6 +48,19 @@ length-totals cs t h = rw (length-append, length-bytes, length-fields, length-ap
 pub rows-of : (s : List ℕ) (r : ℕ) → length s ≡ sizeFor r → rowsIn s ≡ r
 unfolding rowsIn
 rows-of s r h = omega arith
+
+-- 48 bytes from where a row starts
+pub row-48 : (s : List ℕ) (i : ℕ) → rowPlace i + 48 ≤ length s → length (rowIn s i) ≡ 48
+unfolding rowIn
+row-48 s i h = length-take-le 48 (drop (rowPlace i) s) (rw (length-drop (rowPlace i) s) (omega arith))
+
+-- a row of it
+module _ (s : List ℕ) (h : Sized s) (i : ℕ) (g : i < rowsIn s) where
+  pub row-room : rowPlace i + 48 ≤ length s
+  row-room = omega (arith, h, g)
+
+  pub length-row : length (rowIn s i) ≡ 48
+  length-row = row-48 s i row-room
 
 -- of a sheet that says k
 module _ (k : ℕ) (s : List ℕ) (h : isSheetOf k s ≡ true) where
@@ -178,6 +192,23 @@ past-row b r i h =
 pub readable : (s : List ℕ) (i : ℕ) → rowRefusal s i ≡ 0 → (isSheet s ≡ true) × (i < rowsIn s)
 unfolding rowRefusal
 readable s i h = past-row (isSheet s) (rowsIn s) i h
+
+pub read-48 : (s : List ℕ) (i : ℕ) → rowRefusal s i ≡ 0 → length (rowIn s i) ≡ 48
+read-48 s i h = let k = readable s i h in length-row s (sheet-length s (k .0)) i (k .1)
+
+-- 7 decides whether bytes are a sheet
+module _ (s : List ℕ) (q : ℕ) (e : q ≡ totalRefusal s) where
+  pub no-sheet : (q ≡ 0 → ⊥) → isSheet s ≡ false
+  unfolding totalRefusal
+  no-sheet h = go (isSheet s) (λ z. h (e ∙ z))
+    where
+      go : (b : Bool) → (_≡_ {A = ℕ} (cond (not b) 7 0) 0 → ⊥) → b ≡ false
+      go true n = absurd (n refl)
+      go false n = refl
+
+  pub a-sheet : q ≡ 0 → isSheet s ≡ true
+  unfolding totalRefusal
+  a-sheet h = past-7 (isSheet s) 0 (sym e ∙ h) .0
 
 pub makeable : (s : List ℕ) (r : ℕ) → blankRefusal s r ≡ 0 → (r ≤ mostRows) × (length s ≡ sizeFor r)
 unfolding blankRefusal

@@ -10,7 +10,8 @@ use borrow.Author.Tests.{not-false, eqb-true}
 use lib.Dec.{eqb}
 use lib.ListN.{length, length-append}
 use Rattle.ledger.specs.Sheet.{sound, mostRows}
-use Rattle.ledger.specs.Calls.{rowsIn, rowIn, soundRow, firstFrom, firstRejected}
+use Rattle.ledger.specs.Calls.{rowsIn, rowIn}
+use Rattle.inspection.specs.Rows.{soundRow, firstFrom, firstRejected}
 use Rattle.ledger.specs.laws.Refusals.{sheet-few}
 use Rattle.month.specs.Month.{Leg, legAt, legsFrom, legsOf, stopOf}
 use Rattle.month.specs.Files.{File, taken, legsIn, allLegs, sheetsIn, Each}

@@ -13,7 +13,8 @@ use lib.Seq.{take-append-le, drop-append-le}
 use Rattle.laws.specs.laws.Flags.{lt-or-le}
 use Rattle.ledger.specs.Bytes.{number, read}
 use Rattle.ledger.specs.Sheet.{mostRows, rowPlace, sizeFor, withTimes, withoutTimes, entries, functionIn, timesIn, sound}
-use Rattle.ledger.specs.Calls.{rowsIn, rowIn, equal, isSheetOf, isSheet, rowRefusal, rowRungs, soundRow, firstFrom, firstRejected, timesOf}
+use Rattle.ledger.specs.Calls.{rowsIn, rowIn, equal, isSheetOf, isSheet, rowRefusal, rowRungs, timesOf}
+use Rattle.inspection.specs.Rows.{soundRow, firstFrom, firstRejected}
 use Rattle.month.specs.declared.parts.Report.{Report}
 use Rattle.month.specs.Month.{legAt, legsFrom, legsOf, legsOn, sheetOn, stopOf, addedOf}
 

@@ -7,27 +7,10 @@ use native.Mathlib.Omega.{arith}
 use borrow.Author.Tests.{ltb-false, lt-leb}
 use lib.Dec.{ltb}
 use Rattle.ledger.specs.Sheet.{classOf, refusalIn, valueOf}
-use Rattle.ledger.specs.Calls.{rowsIn, rowIn, isSheet, firstRejected, totalRefusal, rowRefusal, readOf, classIn, valueIn, wordOf}
+use Rattle.ledger.specs.Calls.{rowsIn, rowIn, isSheet, rowRefusal, readOf}
+use Rattle.inspection.specs.Rows.{firstRejected, classIn, valueIn, wordOf}
 use Rattle.month.specs.declared.parts.Stop.{Stop}
 use Rattle.month.specs.Month.{patternIn, stopOf}
-
--- ---- 7 decides whether bytes are a sheet
-module _ (s : List ℕ) where
-  pub no-sheet : (totalRefusal s ≡ 0 → ⊥) → isSheet s ≡ false
-  unfolding totalRefusal
-  no-sheet h = go (isSheet s) refl
-    where
-      go : (b : Bool) → isSheet s ≡ b → isSheet s ≡ false
-      go true e = absurd (h (rw e refl))
-      go false e = e
-
-  pub a-sheet : totalRefusal s ≡ 0 → isSheet s ≡ true
-  unfolding totalRefusal
-  a-sheet h = go (isSheet s) refl
-    where
-      go : (b : Bool) → isSheet s ≡ b → isSheet s ≡ true
-      go true e = e
-      go false e = let z : _≡_ {A = ℕ} 7 0 = (rw e at h) in absurd (omega arith)
 
 -- ---- a file that is taken
 module _ (s : List ℕ) (h : stopOf s .refusal ≡ 0) where

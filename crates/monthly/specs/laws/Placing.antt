@@ -1,12 +1,10 @@
 -- Pieces of text one after the other. Assumes nothing.
 use mathlib.Core.Path.{refl, _∙_}
-use mathlib.Core.Bool.{Bool, true, false, cond, _&&_}
 use mathlib.Core.List.{List, [], _∷_, _++_}
-use Prim.Native.Nat.{ℕ, zero, suc, _+_, _/_, _%_, _≤_}
+use Prim.Native.Nat.{ℕ, _+_, _≤_}
 use native.Mathlib.Omega.{arith}
-use lib.Dec.{ltb}
 use lib.ListN.{length, length-append}
-use Rattle.text.specs.Text.{glyphOf, digitsOf, three, signedHex}
+use Rattle.text.specs.Text.{three}
 use Rattle.text.specs.Writing.{Puts}
 use Rattle.text.specs.laws.Digits.{field-most}
 use Rattle.text.specs.laws.Writing.{placed, put-none, put-both}
@@ -41,21 +39,3 @@ looser s a m n x {t} {b} h p = let ps = p .short in record { put = p .put; short
 pub three-most : (a b c after : ℕ) → length (three a b c ++ (after ∷ [])) ≤ 63
 unfolding three
 three-most a b c after = simp length-append (omega (arith, simp length-append at (field-most a 0), simp length-append at (field-most b 0), simp length-append at (field-most c 0)))
-
--- a whole number of 544 digits, its sign and the byte after it
-hex-length : (k n : ℕ) → length (digitsOf false 16 k n) ≤ k
-unfolding digitsOf
-hex-length zero n = omega arith
-hex-length (suc k) n = go (ltb n 16) (hex-length k (n / 16))
-  where
-    go : (t : Bool) → length (digitsOf false 16 k (n / 16)) ≤ k → length (cond t (glyphOf n ∷ []) (digitsOf false 16 k (n / 16) ++ (glyphOf (n % 16) ∷ []))) ≤ suc k
-    go true h = omega arith
-    go false h = simp length-append (omega arith)
-
-pub whole-most : (negative : Bool) (n after : ℕ) → length (signedHex negative n ++ (after ∷ [])) ≤ 546
-unfolding signedHex
-whole-most negative n after = go (negative && ltb 0 n)
-  where
-    go : (b : Bool) → length (cond b (45 ∷ digitsOf false 16 544 n) (digitsOf false 16 544 n) ++ (after ∷ [])) ≤ 546
-    go true = simp length-append (omega (arith, hex-length 544 n))
-    go false = simp length-append (omega (arith, hex-length 544 n))

@@ -1,5 +1,5 @@
 -- The line instead, or the page of the sheet in its memory.
-use Rattle.outcome.specs.laws.Texts.{instead, shown}
+use Rattle.ending.specs.laws.Texts.{instead, shown}
 use Rattle.rounds.specs.Rounds.{roundsPage}
 use borrow.Author.Needs.{needs}
 use Rattle.rounds.proofs.put_text.Statement.{statement}

@@ -1,7 +1,9 @@
 -- The function and the arguments, from their places in the row.
+use mathlib.Core.Path.{_∙_}
+use native.Mathlib.Omega.{arith}
 use borrow.Author.Needs.{needs}
 use Rattle.ledger.specs.Sheet.{functionIn}
-use Rattle.page.specs.Page.{answerAt}
+use Rattle.ledger.specs.laws.Fields.{pattern-there}
 use Rattle.rounds.specs.Rounds.{argumentIn, roundsIn}
 use Rattle.rounds.proofs.rounds_in.Statement.{statement}
 use Rattle.rounds.proofs.rounds_in.Tie as tie
@@ -22,9 +24,16 @@ counted-requires : tie.Need-counted-requires
 counted-requires c κs = search needs
 
 returns : tie.Need-returns
-unfolding roundsIn argumentIn functionIn answerAt
+unfolding roundsIn argumentIn functionIn
 returns c =
-    rw (c .counted .ensures, c .before .before .before .before .pattern-at .ensures, c .before .before .before .pattern-at2 .ensures, c .before .before .pattern-at3 .ensures)
+    let f = c .before .before .before .before .before .before in
+    let w = f .args .row .now in
+    rw (
+      c .counted .ensures,
+      c .before .before .before .before .pattern-at .ensures ∙ pattern-there w 8 (omega (arith, f .pre)),
+      c .before .before .before .pattern-at2 .ensures ∙ pattern-there w 16 (omega (arith, f .pre)),
+      c .before .before .pattern-at3 .ensures ∙ pattern-there w 24 (omega (arith, f .pre)),
+    )
 
 pub rounds-in-spec : {M : Type 1} → statement M
 rounds-in-spec =

@@ -3,7 +3,7 @@ use mathlib.Core.Path.{refl}
 use mathlib.Core.Bool.{true}
 use mir.Syntax.{w32}
 use mir.ValLaws.{toZ-ofZ}
-use Rattle.engine.specs.Run.{zeros}
+use Rattle.runner.specs.Run.{zeros}
 use Rattle.runner.specs.Done.{saves, none}
 use borrow.Author.Needs.{needs}
 use Rattle.rounds.proofs.run.Statement.{statement}

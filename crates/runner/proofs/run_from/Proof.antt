@@ -1,7 +1,7 @@
 -- Read, kept, written.
 use mir.Syntax.{w32}
 use mir.ValLaws.{toZ-ofZ}
-use Rattle.engine.specs.Run.{zeros}
+use Rattle.runner.specs.Run.{zeros}
 use Rattle.runner.specs.Done.{begunOf}
 use borrow.Author.Needs.{needs}
 use Rattle.runner.proofs.run_from.Statement.{statement}

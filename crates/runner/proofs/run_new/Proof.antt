@@ -2,7 +2,7 @@
 use mir.Syntax.{w32}
 use mir.ValLaws.{toZ-ofZ}
 use mathlib.Core.Path.{refl}
-use Rattle.engine.specs.Run.{zeros}
+use Rattle.runner.specs.Run.{zeros}
 use Rattle.runner.specs.Done.{begunOf}
 use borrow.Author.Needs.{needs}
 use Rattle.runner.proofs.run_new.Statement.{statement}

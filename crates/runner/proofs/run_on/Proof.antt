@@ -3,7 +3,8 @@ use mathlib.Core.Path.{refl, sym}
 use native.Mathlib.Omega.{arith}
 use mir.Syntax.{w32}
 use mir.ValLaws.{toZ-ofZ}
-use Rattle.runner.proofs.Runs.{taken-7, refused-7, never, begun-with, fix-begins}
+use Rattle.ledger.specs.laws.Refusals.{a-sheet, no-sheet}
+use Rattle.runner.proofs.Runs.{never, begun-with, fix-begins}
 use borrow.Author.Needs.{needs}
 use Rattle.runner.proofs.run_on.Statement.{statement}
 use Rattle.runner.proofs.run_on.Tie as tie
@@ -15,7 +16,7 @@ returns : tie.Need-returns
 returns c =
     let bytes = c .before .before .before .before .before .args .bytes .now in
     let q = c .before .total-refusal in
-    (sym (refused-7 bytes (q .result) (q .ensures) (c .if1 .taken)), λ e. never e)
+    (sym (no-sheet bytes (q .result) (q .ensures) (c .if1 .taken)), λ e. never e)
 
 slice-aggregate-put-bytes : tie.Need-slice-aggregate-put-bytes
 slice-aggregate-put-bytes c = search needs
@@ -30,7 +31,7 @@ run-from-requires : tie.Need-run-from-requires
 run-from-requires c κs =
     let bytes = c .before .before .before .before .before .before .before .before .before .before .args .bytes .now in
     let q = c .before .before .before .before .before .before .total-refusal in
-    let sheet = taken-7 bytes (q .result) (q .ensures) (c .before .before .before .before .before .if1 .left) in
+    let sheet = a-sheet bytes (q .result) (q .ensures) (c .before .before .before .before .before .if1 .left) in
     let put = c .before .before .before .put-bytes in
     rw (c .before .fixing .ensures, begun-with bytes _ (put .last .0) (put .result) sheet refl (put .ensures)) (fix-begins bytes _ (put .last .0) (put .result) sheet refl (put .ensures))
 
@@ -39,7 +40,7 @@ returns-2 c =
     let s = c .before .before .before .before .before .before .before .before .before .before .before in
     let bytes = s .args .bytes .now in
     let q = c .before .before .before .before .before .before .before .total-refusal in
-    let sheet = taken-7 bytes (q .result) (q .ensures) (c .before .before .before .before .before .before .if1 .left) in
+    let sheet = a-sheet bytes (q .result) (q .ensures) (c .before .before .before .before .before .before .if1 .left) in
     let put = c .before .before .before .before .put-bytes in
     let input = toZ-ofZ w32 (s .args .input) (s .fits .input) in
     let output = toZ-ofZ w32 (s .args .output) (s .fits .output) in (

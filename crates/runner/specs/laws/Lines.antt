@@ -12,9 +12,9 @@ use Rattle.line.specs.declared.Number.the-variants.{Value, Not}
 use Rattle.line.specs.declared.Line.{Line}
 use Rattle.line.specs.declared.Line.the-variants.{Edit, Malformed}
 use Rattle.line.specs.Line.{decimalOf, lineOf}
-use Rattle.outcome.specs.declared.State.{State}
-use Rattle.engine.specs.Machine.{longest, Held, Room, lineNumber, countLine, editLine, takeLine, endOf, joinOf, stepOf, feedOf}
-use Rattle.engine.specs.laws.Steps.{step-idle}
+use Rattle.ending.specs.declared.outcome.State.{State}
+use Rattle.runner.specs.Machine.{longest, Held, Room, lineNumber, countLine, editLine, takeLine, endOf, joinOf, stepOf, feedOf}
+use Rattle.runner.specs.laws.Steps.{step-idle}
 use Rattle.runner.specs.Program.{lineEnds}
 
 -- a bad line stays so

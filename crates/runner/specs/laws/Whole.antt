@@ -13,12 +13,12 @@ use lib.Dec.{ltb, eqb}
 use borrow.Author.Tests.{ltb-true, not-true, lt-ltb, ne-eqb}
 use Rattle.io.specs.Counts.{clamped}
 use Rattle.page.specs.Page.{failedLine}
-use Rattle.outcome.specs.declared.State.{State}
-use Rattle.outcome.specs.Outcome.{Outcome, Start, Sheet, Bad, endedOf, printed, textOf}
-use Rattle.engine.specs.Run.{joined, linesOf, ranOf}
-use Rattle.engine.specs.Machine.{Room, room, feedOf, feedAll, finishOf, outcomeOf, Begins}
-use Rattle.engine.specs.laws.Law.{program-law, stopped-law}
-use Rattle.engine.specs.laws.Whole.{taken-law}
+use Rattle.ending.specs.declared.outcome.State.{State}
+use Rattle.ending.specs.Outcome.{Outcome, Start, Sheet, Bad, endedOf, printed, textOf}
+use Rattle.runner.specs.Run.{joined, linesOf, ranOf}
+use Rattle.runner.specs.Machine.{Room, room, feedOf, feedAll, finishOf, outcomeOf, Begins}
+use Rattle.runner.specs.laws.Law.{program-law, stopped-law}
+use Rattle.runner.specs.laws.Parts.{taken-law}
 use Rattle.files.specs.Calls.{Read}
 use Rattle.files.specs.Reads.{broughtOf, failedOf, inputOf}
 use Rattle.runner.specs.Reads.{goesOn, Next, Reads, last, go-on, spent}

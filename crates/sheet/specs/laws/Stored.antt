@@ -13,7 +13,7 @@ use Rattle.bits.specs.laws.Patterns.{value-back}
 use Rattle.laws.specs.Arithmetic.{float}
 use Rattle.answer.specs.Answer.{refusalOf, firstOf}
 use Rattle.answer.specs.Numbers.{last, stored}
-use Rattle.functions.specs.laws.Evaluated.{stored-refusal, never-nan, fits-first}
+use Rattle.sheet.specs.laws.Evaluated.{stored-refusal, never-nan, fits-first}
 use Rattle.ledger.specs.Bytes.{bytes, number, fields}
 use Rattle.ledger.specs.Sheet.{Row, rowBytes, blankRow, functionIn, refusalIn, timesIn, firstIn, soundOf, sound}
 use Rattle.ledger.specs.laws.Fields.{number-bytes}

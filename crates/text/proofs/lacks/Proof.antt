@@ -1,5 +1,5 @@
 -- The test of the code, at both returns, is the definition's.
-use Rattle.text.proofs.Room.{too-small, beyond}
+use Rattle.text.specs.laws.Room.{too-small, beyond}
 use Rattle.text.proofs.lacks.Statement.{statement}
 use Rattle.text.proofs.lacks.Tie as tie
 

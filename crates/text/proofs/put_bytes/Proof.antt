@@ -8,7 +8,7 @@ use native.Mathlib.Omega.{arith}
 use borrow.Author.Needs.{needs}
 use Rattle.text.specs.Writing.{Put}
 use Rattle.text.specs.laws.Writing.{put-none, put-next, puts-all, puts-none}
-use Rattle.text.proofs.Room.{has, has-not}
+use Rattle.text.specs.laws.Room.{has, has-not}
 use Rattle.text.proofs.put_bytes.Statement.{statement}
 use Rattle.text.proofs.put_bytes.Tie as tie
 

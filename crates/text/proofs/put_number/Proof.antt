@@ -6,7 +6,7 @@ use mathlib.Core.List.{[], _∷_, _++_}
 use borrow.Author.Needs.{needs}
 use Rattle.text.specs.Text.{digitsOf}
 use Rattle.text.specs.laws.Writing.{put-both, puts-all, puts-none}
-use Rattle.text.proofs.Room.{has, has-not}
+use Rattle.text.specs.laws.Room.{has, has-not}
 use Rattle.text.proofs.put_number.Statement.{statement}
 use Rattle.text.proofs.put_number.Tie as tie
 

@@ -6,7 +6,7 @@ use borrow.Author.Needs.{needs}
 use Rattle.text.specs.Text.{decimal, three, space}
 use Rattle.text.specs.laws.Digits.{field-most}
 use Rattle.text.specs.laws.Writing.{placed-three, puts-all, puts-none}
-use Rattle.text.proofs.Room.{has, has-not}
+use Rattle.text.specs.laws.Room.{has, has-not}
 use Rattle.text.proofs.put_three.Statement.{statement}
 use Rattle.text.proofs.put_three.Tie as tie
 

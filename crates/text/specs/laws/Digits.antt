@@ -32,7 +32,7 @@ decimal-enough zero n pos h below = absurd (omega arith)
 decimal-enough (suc k) n pos h below = sym (enough 10 (omega arith) 19 k n (omega arith) below)
 
 -- ---- how long a number is
-digits-length : (all : Bool) (base k n : ℕ) → length (digitsOf all base k n) ≤ k
+pub digits-length : (all : Bool) (base k n : ℕ) → length (digitsOf all base k n) ≤ k
 unfolding digitsOf
 digits-length all base zero n = omega arith
 digits-length all base (suc k) n = by-test (not all && ltb n base) (digits-length all base k (n / base)) where

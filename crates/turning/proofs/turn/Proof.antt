@@ -4,11 +4,11 @@ use mir.Syntax.{w32}
 use mir.ValLaws.{toZ-ofZ}
 use native.Mathlib.Nat.{sub-zero}
 use borrow.Author.Tests.{not-true, not-false}
-use Rattle.files.specs.Notes.{cannotRead}
+use Rattle.loading.specs.Notes.{cannotRead}
 use Rattle.files.specs.declared.sending.Output.{Output}
 use Rattle.files.specs.Output.{outputOf, Wrote}
 use Rattle.turning.specs.Turning.{unread, read}
-use Rattle.files.specs.laws.Loads.{loaded-as}
+use Rattle.loading.specs.laws.Loads.{loaded-as}
 use borrow.Author.Needs.{needs}
 use Rattle.turning.proofs.turn.Statement.{statement}
 use Rattle.turning.proofs.turn.Tie as tie

@@ -3,7 +3,7 @@ use mathlib.Core.Path.{ap, _∙_, sym}
 use borrow.Author.Tests.{not-true, not-false}
 use lib.ListN.{length}
 use Rattle.ledger.specs.Sheet.{sound}
-use Rattle.ledger.proofs.Places.{length-row}
+use Rattle.ledger.specs.laws.Refusals.{length-row}
 use Rattle.ledger.proofs.Tested.{damaged-row, damaged-counts}
 use borrow.Author.Needs.{needs}
 use Rattle.ledger.proofs.checks.is_miscounted.Reads as is-miscounted-reads

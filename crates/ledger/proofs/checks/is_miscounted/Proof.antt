@@ -5,12 +5,11 @@ use lib.Dec.{eqb}
 use lib.ListN.{length, getD}
 use Rattle.ledger.specs.Sheet.{classOf}
 use Rattle.ledger.specs.Calls.{rowIn, countsIn, plus}
-use Rattle.ledger.specs.laws.Refusals.{class-lt}
-use Rattle.ledger.proofs.Places.{length-row}
+use Rattle.ledger.specs.laws.Refusals.{length-row, class-lt}
 use Rattle.ledger.proofs.Tested.{miscounted-sum, miscounted-class}
 use borrow.Author.Needs.{needs}
 use Rattle.ledger.proofs.row.row_part.Reads as row-part-reads
-use Rattle.ledger.proofs.row.share_of.Reads as share-of-reads
+use Rattle.ledger.proofs.row.share_in.Reads as share-in-reads
 use Rattle.ledger.proofs.rows_in.Reads as rows-in-reads
 use Rattle.ledger.proofs.totals.read_counts.Reads as read-counts-reads
 use Rattle.ledger.proofs.totals.sum.Reads as sum-reads
@@ -22,8 +21,8 @@ use Rattle.ledger.proofs.checks.is_miscounted.Lts as lts
 row-part-requires : tie.Need-row-part-requires
 row-part-requires c κs = search needs
 
-share-of-requires : tie.Need-share-of-requires
-share-of-requires c κs =
+share-in-requires : tie.Need-share-in-requires
+share-in-requires c κs =
     let a = c .before .before in
     ap length (c .row-part .ensures) ∙ length-row (a .args .s .now) (a .pre .0) (a .args .row) (a .pre .1)
 
@@ -45,19 +44,19 @@ returns c =
 mul-result : tie.Need-mul-result
 mul-result c =
     let a = c .before .before .before .before .before .before .before in
-    let k : c .before .before .before .before .share-of .result .class ≡ classOf (rowIn (a .args .s .now) (a .args .row)) = c .before .before .before .before .share-of .ensures .0 ∙ ap classOf (c .before .before .before .before .before .row-part .ensures) in
+    let k : c .before .before .before .before .share-in .result .class ≡ classOf (rowIn (a .args .s .now) (a .args .row)) = c .before .before .before .before .share-in .ensures .0 ∙ ap classOf (c .before .before .before .before .before .row-part .ensures) in
     omega (arith, k, class-lt (rowIn (a .args .s .now) (a .args .row)) (a .pre .2))
 
 array-read-result : tie.Need-array-read-result
 array-read-result c =
     let a = c .before .before .before .before .before .before .before in
-    let k : c .before .before .before .before .share-of .result .class ≡ classOf (rowIn (a .args .s .now) (a .args .row)) = c .before .before .before .before .share-of .ensures .0 ∙ ap classOf (c .before .before .before .before .before .row-part .ensures) in
+    let k : c .before .before .before .before .share-in .result .class ≡ classOf (rowIn (a .args .s .now) (a .args .row)) = c .before .before .before .before .share-in .ensures .0 ∙ ap classOf (c .before .before .before .before .before .row-part .ensures) in
     omega (arith, k, class-lt (rowIn (a .args .s .now) (a .args .row)) (a .pre .2))
 
 returns-2 : tie.Need-returns-2
 returns-2 c =
     let a = c .before .before .before .before .before .before .before in
-    let k = c .before .before .before .before .share-of .ensures .0 ∙ ap classOf (c .before .before .before .before .before .row-part .ensures) in
+    let k = c .before .before .before .before .share-in .ensures .0 ∙ ap classOf (c .before .before .before .before .before .row-part .ensures) in
     (λ i. eqb (getD (c .before .before .before .read-counts .ensures i) (k i) 0) 0)
     ∙ miscounted-class (a .args .s .now) (a .args .row) (sym (c .before .before .sum .ensures ∙ ap plus (c .before .before .before .read-counts .ensures)) ∙ c .if1 .left ∙ c .before .rows-in .ensures)
 
@@ -66,7 +65,7 @@ is-miscounted-spec =
     tie.close
     (tie.spec
     row-part-requires
-    share-of-requires
+    share-in-requires
     read-counts-requires
     sum-requires
     rows-in-requires

@@ -7,9 +7,11 @@ use lib.Dec.{leb}
 use Rattle.laws.specs.Ascii.{ascii}
 use Rattle.total.specs.declared.rounding.Signed.{Signed}
 use Rattle.total.specs.Total.{val, Half, sizeOfTotal, signedOf}
-use Rattle.text.specs.Text.{signedHex, end}
+use Rattle.text.specs.Text.{end}
+use Rattle.exact.specs.Exact.{signedHex}
+use Rattle.exact.specs.laws.Hex.{whole-most}
 use Rattle.monthly.specs.Monthly.{exactText}
-use Rattle.monthly.specs.laws.Placing.{piece, follow, whole-most}
+use Rattle.monthly.specs.laws.Placing.{piece, follow}
 use borrow.Author.Needs.{needs}
 use Rattle.monthly.proofs.lines.put_exact.Statement.{statement}
 use Rattle.monthly.proofs.lines.put_exact.Tie as tie

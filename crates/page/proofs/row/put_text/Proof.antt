@@ -2,7 +2,8 @@
 use native.Mathlib.Omega.{arith}
 use lib.ListN.{getD}
 use borrow.Author.Needs.{needs}
-use Rattle.page.specs.Page.{headText, answersText, answerAt, rowText}
+use Rattle.ledger.specs.Bytes.{patternAt}
+use Rattle.page.specs.Page.{headText, answersText, rowText}
 use Rattle.text.specs.laws.Writing.{put-both}
 use Rattle.page.proofs.row.put_text.Statement.{statement}
 use Rattle.page.proofs.row.put_text.Tie as tie
@@ -37,7 +38,7 @@ returns c =
     let q = c .before .before .put-answers .ensures in
     let first = c .before .before .before .before .before .before .before .before .before .before .before .pattern-at .ensures in
     let second = c .before .before .before .before .before .before .before .before .before .before .pattern-at2 .ensures in (
-      put-both (a .out .now) (a .at) (headText (a .i) (getD w 0 0) (getD w 1 0)) (answersText (answerAt w 32) (answerAt w 40) (a .times)) (omega (arith, q .1)) (p .0)
+      put-both (a .out .now) (a .at) (headText (a .i) (getD w 0 0) (getD w 1 0)) (answersText (patternAt w 32) (patternAt w 40) (a .times)) (omega (arith, q .1)) (p .0)
           (rw (first, second) at (q .0)),
       omega (arith, q .1),
     )

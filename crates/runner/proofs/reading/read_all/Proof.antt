@@ -6,7 +6,7 @@ use mir.Syntax.{w32}
 use mir.ValLaws.{toZ-ofZ}
 use borrow.Author.Needs.{needs}
 use borrow.Author.Tests.{not-true, not-false}
-use Rattle.engine.specs.Machine.{Room, room}
+use Rattle.runner.specs.Machine.{Room, room}
 use Rattle.runner.specs.Reads.{mostReads, SomeReads}
 use Rattle.runner.proofs.Runs.{ended, one-more, none-left}
 use Rattle.runner.proofs.reading.read_all.Statement.{statement}

@@ -10,7 +10,7 @@ use mir.Syntax.{w64}
 use mir.ValLaws.{toZ-ofZ}
 use borrow.Author.Needs.{needs}
 use Rattle.io.specs.Counts.{clamped}
-use Rattle.engine.specs.Machine.{room, feedOf}
+use Rattle.runner.specs.Machine.{room, feedOf}
 use Rattle.files.specs.Reads.{broughtOf, failedOf}
 use Rattle.runner.specs.Reads.{goesOn}
 use Rattle.runner.proofs.reading.take_part.Statement.{statement}

@@ -2,7 +2,7 @@
 use borrow.Author.Tests.{lt-ltb, le-ltb}
 use Rattle.sheet.specs.Edit.{keep}
 use borrow.Author.Needs.{needs}
-use Rattle.functions.proofs.used.Reads as used-reads
+use Rattle.sheet.proofs.functions.used.Reads as used-reads
 use Rattle.sheet.proofs.row.argument.Statement.{statement}
 use Rattle.sheet.proofs.row.argument.Tie as tie
 use Rattle.sheet.proofs.row.argument.Reads as reads

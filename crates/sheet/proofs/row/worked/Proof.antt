@@ -5,14 +5,14 @@ use Prim.Native.Nat.{_<_}
 use native.Mathlib.Omega.{arith}
 use lib.Ieee.{toBits, binary64}
 use Rattle.answer.specs.Answer.{refusalOf, firstOf, secondOf}
-use Rattle.functions.specs.laws.Evaluated.{refusal-byte}
+use Rattle.sheet.specs.laws.Evaluated.{refusal-byte}
 use Rattle.ledger.specs.Sheet.{rowBytes}
 use Rattle.ledger.specs.laws.Rows.{row-words}
 use Rattle.sheet.specs.Edit.{answerOf, answered}
 use borrow.Author.Needs.{needs}
 use Rattle.answer.proofs.read.Reads as read-reads
 use Rattle.bits.proofs.to_pattern.Reads as to-pattern-reads
-use Rattle.functions.proofs.evaluate.Reads as evaluate-reads
+use Rattle.sheet.proofs.functions.evaluate.Reads as evaluate-reads
 use Rattle.sheet.proofs.row.worked.Statement.{statement}
 use Rattle.sheet.proofs.row.worked.Tie as tie
 use Rattle.sheet.proofs.row.worked.Reads as reads

@@ -1,0 +1,2 @@
+-- Laws of numbers that take many limbs.
+pub mod Hex

@@ -1,3 +1,0 @@
--- What the contracts cite (Functions), and what is proved of it (laws).
-pub mod Functions
-pub mod laws

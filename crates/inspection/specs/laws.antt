@@ -1,0 +1,2 @@
+-- Laws of a search.
+pub mod First

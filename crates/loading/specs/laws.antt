@@ -1,0 +1,2 @@
+-- A file that was read, or was not.
+pub mod Loads

@@ -1,7 +1,8 @@
 #!/usr/bin/env python3
 """oracle/gate_table.py LOG: the table of crates in docs/MEASURED.md, from what the gate printed (.ci/run keeps it as target/gate.log).
 oracle/gate_table.py LOG --write puts it into docs/MEASURED.md, between its two marks.
-A crate's line has the seconds of its check, its wrong programs and the seconds that they took, and its lines of code, definitions, laws and proofs. Seconds are the gate's own, one check more at a time than there are processors."""
+A crate's line has the seconds of its check, its wrong programs and the seconds that they took, and its lines of code, definitions, laws and proofs. Seconds are the gate's own, by the clock,
+with several checks at a time."""
 import os, re, sys
 
 import measured
@@ -27,7 +28,7 @@ def crates():
 
 
 def table(log):
-    checks, edits, passed, whole = {}, {}, None, None
+    checks, edits, passed, whole, how = {}, {}, None, None, None
     for line in log:
         m = re.match(r'rt: (\w+) proved \((\d+) s\)', line)
         if m:
@@ -38,9 +39,9 @@ def table(log):
         m = re.match(r'(\d+) passed, 0 failed', line)
         if m:
             passed = m[0]
-        m = re.match(r'the gate took (\d+) s', line)
+        m = re.match(r'the gate took (\d+) s, with (up to \d+ checks at a time on \d+ processors)', line)
         if m:
-            whole = int(m[1])
+            whole, how = int(m[1]), m[2]
     if passed is None or whole is None:
         sys.exit('this is no log of a gate that passed: run .ci/run, and give target/gate.log')
     out = ['| crate | check, s | wrong programs | their checks, s | code | definitions | laws | proofs |', '|---|---|---|---|---|---|---|---|']
@@ -54,7 +55,7 @@ def table(log):
         out.append('| `%s` | %s |' % (name, ' | '.join(map(str, row))))
     out.append('| all | %s |' % ' | '.join(map(str, sums)))
     out.append('')
-    out.append('The whole gate took %d min %d s: \'%s\'.' % (whole // 60, whole % 60, passed))
+    out.append('The whole gate took %d min %d s, with %s: \'%s\'.' % (whole // 60, whole % 60, how, passed))
     return '\n'.join(out)
 
 

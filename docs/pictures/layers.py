@@ -19,7 +19,7 @@ def read():
     for line in open(os.path.join(HERE, "..", "..", "crates.txt")):
         line = line.strip()
         if line.startswith("#"):
-            words.append(LEAVES if line.startswith("# leaves first") else line[1:].strip())
+            words.append(LEAVES if line == "# leaves first" else line[1:].strip())
         elif line:
             name, _, rest = line.partition(":")
             uses[name], kit[name], group[name] = rest.split(), [], max(0, len(words) - 1)

@@ -2,20 +2,10 @@
 use mathlib.Core.Bool.{cond}
 use lib.Ieee.{Float, nan}
 use Rattle.laws.specs.Arithmetic.{_⊕_, _⊖_, _⊗_, _⊘_, _<·_, float, 1·0, 3·0, 6·0, 9·0, 14·0, 22·0, 26·0, 52·0, 88·0}
-use Rattle.root.specs.Root.{rootOf}
-use Rattle.carlson.specs.declared.Roots.{Roots}
 
 -- the larger of two distances
 unfoldable pub largerOf : Float → Float → Float
 largerOf a b = cond (a <· b) b a
-
--- L = √x√y + √y√z + √z√x, by which a round of RF, RD or RJ moves its arguments
-abbrev pub spreadOf : Float → Float → Float → Float
-spreadOf x y z = rootOf x ⊗ rootOf y ⊕ rootOf y ⊗ rootOf z ⊕ rootOf z ⊗ rootOf x
-
--- all that such a round takes of x, y and z
-unfoldable pub rootsOf : Float → Float → Float → Roots
-rootsOf x y z = record { x = rootOf x; y = rootOf y; z = rootOf z; spread = spreadOf x y z }
 
 -- the closing series of RD and RJ, of fifth order (DLMF 19.36.2)
 unfoldable pub fifthOf : Float → Float → Float → Float → Float

@@ -1,4 +1,3 @@
 -- What is proved of the loop, whatever the recipe.
 pub mod Duplication
-pub mod Together
 pub mod Counts

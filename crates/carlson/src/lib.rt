@@ -1,7 +1,7 @@
 // What Carlson's symmetric integrals share: each of RF, RC, RD and RJ is a crate of its own, by duplication (01, module 5; DLMF 19.36(i); Carlson 1995).
 // docs/STEPS.md writes the steps down and says what infinite and NaN arguments do.
 ghost use mathlib.Core.Path.{_≡_};
-ghost use Rattle.carlson.specs.Series.{largerOf, rootsOf, fifthOf, trustedOf};
+ghost use Rattle.carlson.specs.Series.{largerOf, fifthOf, trustedOf};
 
 // What a recipe gives: `value` counts only where `met`, else the refusal is 5.
 pub struct Outcome {
@@ -22,26 +22,6 @@ pub fn larger(a: f64, b: f64) -> f64
     ensures { λ r. ⌜ r ≡ largerOf a b ⌝ }
 {
     if a < b { b } else { a }
-}
-
-// What a round of RF, RD or RJ takes of its arguments: their roots, and L = √x√y + √y√z + √z√x.
-pub struct Roots {
-    pub x: f64,
-    pub y: f64,
-    pub z: f64,
-    pub spread: f64,
-}
-
-pub fn roots_of(x: f64, y: f64, z: f64) -> Roots
-    ensures { λ r. ⌜ r ≡ rootsOf x y z ⌝ }
-{
-    let r = root::three(x, y, z);
-    Roots {
-        x: r.x,
-        y: r.y,
-        z: r.z,
-        spread: r.x * r.y + r.y * r.z + r.z * r.x,
-    }
 }
 
 // The closing series that RD and RJ share.

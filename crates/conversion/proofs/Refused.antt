@@ -10,7 +10,6 @@ use lib.Ieee.{Float, nan, inf, fin}
 use Rattle.ledger.specs.Sheet.{functionIn, refusalIn, firstIn, kindOf, classOf}
 use Rattle.ledger.specs.Calls.{rowsIn, rowIn, isSheetOf, rowRefusal, timesOf, countOf}
 use Rattle.inspection.specs.Rows.{soundRow, classIn}
-use Rattle.conversion.specs.declared.Stop.{Stop}
 use Rattle.conversion.specs.Conversion.{saysBefore, firstOf, rejected, uncounted, oftener, tested, stopped, stopOf}
 
 -- ---- a class is a small number

@@ -17,7 +17,6 @@ use Rattle.laws.specs.laws.Splices.{take-past, drop-past, length-splice}
 use Rattle.ledger.specs.laws.Fields.{length-bytes}
 use Rattle.ledger.proofs.Words.{put-back}
 use Rattle.ledger.specs.laws.Refusals.{row-48, sheet-of-few, sheet-of-length}
-use Rattle.conversion.specs.declared.Stop.{Stop}
 use Rattle.conversion.specs.Conversion.{saysBefore, saysAfter, once, driven, turned, turnedRows, turnedSheet, stopOf, convertedOf}
 use Rattle.conversion.specs.laws.Rows.{length-turned}
 use Rattle.conversion.specs.laws.Accepted.{accepted}

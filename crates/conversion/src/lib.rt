@@ -9,7 +9,7 @@ ghost use lib.Dec.{eqb};
 ghost use Rattle.laws.specs.Ladder.{when_gives_else_};
 ghost use Rattle.laws.specs.Splice.{splice};
 ghost use Rattle.ledger.specs.Bytes.{bytes};
-ghost use Rattle.ledger.specs.Sheet.{mostRows, rowPlace};
+ghost use Rattle.ledger.specs.Sheet.{rowPlace};
 ghost use Rattle.ledger.specs.Calls.{rowIn, countOf};
 ghost use Rattle.conversion.specs.Conversion.{saysBefore, saysAfter, turned, turnedRows, firstOf, rejected, uncounted, oftener, tested, stopOf, convertedOf};
 

@@ -13,7 +13,6 @@ use Rattle.demands.specs.Demand3.{Demand3, demand-3-from}
 use Rattle.demands.specs.laws.Rows.{Rows}
 use Rattle.demands.specs.laws.Runs.{rows-worked}
 use Rattle.demands.specs.laws.Encoded.{rows-in, row-in}
-use Rattle.conversion.specs.declared.Stop.{Stop}
 use Rattle.conversion.specs.Conversion.{once, driven, turned, oftener, stopped, stopOf, convertedOf}
 use Rattle.conversion.specs.laws.Rows.{driven-twice, driven-same, turned-back}
 use Rattle.conversion.specs.laws.Accepted.{accepted, first-named}

@@ -1,10 +1,10 @@
 -- Document 01's corner table: the rows marked P, as one fact. Assumes nothing.
-use Rattle.corners.specs.Root.{RootCorners, root-corners}
-use Rattle.corners.specs.Fused.{FusedCorner, fused-corner}
-use Rattle.corners.specs.Whole.{WholeCorners, whole-corners}
-use Rattle.corners.specs.Complete as complete
-use Rattle.corners.specs.Ellippi as ellippi
-use Rattle.corners.specs.Ellipeinc as ellipeinc
+use Rattle.corners.specs.laws.Root.{RootCorners, root-corners}
+use Rattle.corners.specs.laws.Fused.{FusedCorner, fused-corner}
+use Rattle.corners.specs.laws.Whole.{WholeCorners, whole-corners}
+use Rattle.corners.specs.laws.Complete as complete
+use Rattle.corners.specs.laws.Ellippi as ellippi
+use Rattle.corners.specs.laws.Ellipeinc as ellipeinc
 
 pub record CornerTable : Type 0 where
   -- √2, √(2^-1074), √-0

@@ -8,7 +8,7 @@ use lib.ListN.{length}
 use Rattle.ledger.specs.Sheet.{Row, mostRows, encode}
 use Rattle.ledger.specs.Calls.{blankRefusal, blankOf}
 use Rattle.demands.specs.Edits.{Edit, blanks, AllWorked}
-use Rattle.demands.specs.Shuffles.{Shuffle, Shuffled, own}
+use Rattle.demands.specs.Shuffles.{Shuffle, Shuffled}
 use Rattle.demands.specs.Demand3.{Demand3, demand-3, demand-3-from}
 use Rattle.demands.specs.laws.Shuffled.{fresh-same, toldIn, told-own, reordered}
 

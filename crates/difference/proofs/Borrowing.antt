@@ -1,7 +1,7 @@
 -- Limbs taken from limbs, from the lowest up; and the highest digit turned over. Assumes nothing.
 use mathlib.Core.Path.{_≡_, refl, ap, _∙_, sym, subst}
 use mathlib.Core.List.{List}
-use Prim.Native.Nat.{ℕ, zero, suc, _+_, _-_, _*_, _≤_, _<_}
+use Prim.Native.Nat.{ℕ, _+_, _-_, _*_, _≤_, _<_}
 use native.Mathlib.Nat.{mul-le-mul-left, le-of-eq, le-trans, mul-add}
 use native.Mathlib.Omega.{arith}
 use lib.Dec.{lit≤, lit<}
@@ -11,7 +11,7 @@ use mathlib.Core.Logic.{inl, inr}
 use Rattle.laws.specs.laws.Flags.{lt-or-le}
 use Rattle.total.specs.Total.{val, N, Half}
 use Rattle.total.specs.Carry.{W}
-use Rattle.total.specs.laws.Limbs.{Fit, W-34, W-next, val-lt, val-next, val-set-next, val-below}
+use Rattle.total.specs.laws.Limbs.{Fit, W-34, W-next, val-next, val-set-next, val-below}
 use Rattle.difference.specs.Limbs.{raisedOf}
 use Rattle.difference.specs.laws.Growth.{raised-low, raised-high}
 
@@ -27,19 +27,19 @@ under w w' o z e h k =
     rw e (omega (arith, m))
 
 -- out holds the first i limbs of a less b, and c was borrowed from the next
-pub record Less (a b out : List ℕ) (c i : ℕ) : Type 0 where
+pub record Minus (a b out : List ℕ) (c i : ℕ) : Type 0 where
   pub size : length out ≡ 34
   pub sum : val (take i out) + val (take i b) ≡ val (take i a) + W i * c
   pub fits : val (take i out) < W i
   pub owed : c ≤ 1
 
-pub less-none : (a b : List ℕ) → length a ≡ 34 → Less a b a 0 0
+pub minus-none : (a b : List ℕ) → length a ≡ 34 → Minus a b a 0 0
 unfolding val W
-less-none a b h = record { size = h; sum = refl; fits = lit< tt; owed = lit≤ tt }
+minus-none a b h = record { size = h; sum = refl; fits = lit< tt; owed = lit≤ tt }
 
-pub less-next : (a b out : List ℕ) (c i z d : ℕ) → length a ≡ 34 → length b ≡ 34 → i < 34 → Less a b out c i → z + getD b i 0 + c ≡ getD a i 0 + 0x1_0000_0000_0000_0000 * d → z < 0x1_0000_0000_0000_0000 → d ≤ 1
-    → Less a b (set out i z) d (i + 1)
-less-next a b out c i z d ha hb h l e f g =
+pub minus-next : (a b out : List ℕ) (c i z d : ℕ) → length a ≡ 34 → length b ≡ 34 → i < 34 → Minus a b out c i → z + getD b i 0 + c ≡ getD a i 0 + 0x1_0000_0000_0000_0000 * d → z < 0x1_0000_0000_0000_0000 → d ≤ 1
+    → Minus a b (set out i z) d (i + 1)
+minus-next a b out c i z d ha hb h l e f g =
     let ho = l .size in
     let A : i < length a = omega arith in
     let B : i < length b = omega arith in
@@ -51,8 +51,8 @@ less-next a b out c i z d ha hb h l e f g =
       owed = g;
     }
 
-pub less-all : (a b out : List ℕ) (c i : ℕ) → length a ≡ 34 → length b ≡ 34 → i ≡ 34 → Less a b out c i → (val out + val b ≡ val a + N * c) × (val out < N) × (c ≤ 1)
-less-all a b out c i ha hb h l =
+pub minus-all : (a b out : List ℕ) (c i : ℕ) → length a ≡ 34 → length b ≡ 34 → i ≡ 34 → Minus a b out c i → (val out + val b ≡ val a + N * c) × (val out < N) × (c ≤ 1)
+minus-all a b out c i ha hb h l =
     let x : take i a ≡ a = take-all i a (omega arith) in
     let y : take i b ≡ b = take-all i b (omega arith) in
     let ho = l .size in

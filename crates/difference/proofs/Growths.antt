@@ -4,7 +4,7 @@ use mathlib.Core.Bool.{true, false}
 use mathlib.Core.List.{List}
 use Prim.Native.Nat.{ℕ, zero, suc, _+_, _-_, _*_, _≤_, _<_}
 use native.Mathlib.Omega.{arith}
-use lib.IntN.{ℤ, natAbs, subℕ, _-ℤ_}
+use lib.IntN.{natAbs, subℕ, _-ℤ_}
 use Rattle.total.specs.Total.{N}
 use Rattle.ledger.specs.Calls.{exactOf}
 use Rattle.difference.specs.Difference.{signedOf, growthOf, belowZero}

@@ -1,6 +1,6 @@
 // Two sheets compared (02, [5]): what refuses it, how each row differs, and the difference of the two exact totals.
 // Every call answers for any bytes.
-use limbs::less;
+use limbs::minus;
 use limbs::raised;
 ghost use mathlib.Core.Path.{_≡_};
 ghost use Prim.Native.Nat.{_+_, _-_};
@@ -213,7 +213,7 @@ pub fn grown(old: &[u8], new: &[u8]) -> Growth
 {
     let before = raised(ledger::exact_total(old));
     let after = raised(ledger::exact_total(new));
-    let more = less(after, before);
+    let more = minus(after, before);
     if more.borrow == 0 {
         let limbs = more.limbs;
         return Growth {
@@ -221,7 +221,7 @@ pub fn grown(old: &[u8], new: &[u8]) -> Growth
             limbs: limbs,
         };
     }
-    let fewer = less(before, after);
+    let fewer = minus(before, after);
     let limbs = fewer.limbs;
     Growth {
         negative: true,

@@ -57,7 +57,7 @@ fn step(x: u64, y: u64, owed: u64) -> Limb
 }
 
 // a less b, modulo 2^2176; it borrows 1 where b is larger.
-pub(crate) fn less(a: [u64; 34], b: [u64; 34]) -> Taken
+pub(crate) fn minus(a: [u64; 34], b: [u64; 34]) -> Taken
     ensures { λ r. ⌜ (val (r .limbs) + val b ≡ val a + N * r .borrow) × (val (r .limbs) < N) × (r .borrow ≤ 1) ⌝ }
 {
     let mut out = a;

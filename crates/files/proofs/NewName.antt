@@ -6,7 +6,7 @@ use native.Mathlib.Numerals.{add-one}
 use native.Mathlib.Omega.{arith}
 use mathlib.Core.Bool.{true, false}
 use mathlib.Core.List.{List, [], _∷_, _++_}
-use lib.ListN.{length, length-append, take, drop, getD, set}
+use lib.ListN.{length, length-append, take, getD, set}
 use lib.Dec.{T}
 use lib.IntN.{ℤ, pos, negsuc, natAbs}
 use lib.Signed.{ltZ, nonNeg}
@@ -17,7 +17,7 @@ use borrow.Author.Count.{below-more}
 use borrow.Author.Tests.{eq-eqb, ne-eqb}
 use Rattle.laws.specs.Ascii.{ascii}
 use Rattle.text.specs.Text.{decimal}
-use Rattle.text.specs.Writing.{Put, Puts}
+use Rattle.text.specs.Writing.{Puts}
 use Rattle.text.specs.laws.Digits.{field-most}
 use Rattle.text.specs.laws.Writing.{placed-three}
 use Rattle.files.specs.Calls.{makes, Called}

@@ -2,7 +2,6 @@
 use crate::naming::put_new;
 use crate::naming::try_names;
 use crate::opening::close;
-ghost use mathlib.Core.Path.{_≡_};
 ghost use mathlib.Core.Bool.{true};
 ghost use Prim.Native.Nat.{_<_};
 ghost use lib.ListN.{length, take};

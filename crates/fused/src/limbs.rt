@@ -1,6 +1,5 @@
 // A number of two limbs shifted to the right, and whether that lost anything.
-ghost use mathlib.Core.Path.{_≡_};
-ghost use Prim.Native.Nat.{_-_, _^_, _<_, _≤_};
+ghost use Prim.Native.Nat.{_-_, _<_, _≤_};
 ghost use Rattle.bits.specs.Wide.{val};
 ghost use Rattle.fused.specs.Steps.{Shifted};
 

@@ -1,19 +1,4 @@
--- What the functions' definitions keep: signs and oddness, angles that a sine has an answer for, what infinite and NaN arguments do to a recipe, identities that hold bit for bit.
-pub mod Signs
-pub mod Cuts
-pub mod Odd
-pub mod Symmetry
-pub mod SineAnswered
-pub mod SineDenominators
-pub mod LogarithmAnswered
-pub mod LogarithmDenominators
-pub mod Angles
-pub mod EllipeincAngles
-pub mod EllipfAngles
-pub mod Unmet
-pub mod RfUnmet
-pub mod RcUnmet
-pub mod RdUnmet
-pub mod RjUnmet
-pub mod Ellipeinc
-pub mod Ellipf
+-- What the laws of the functions speak of: an answer with its sign turned (Turned), ellipf without its reduction (Unreduced); then the laws.
+pub mod Turned
+pub mod Unreduced
+pub mod laws

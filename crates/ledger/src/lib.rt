@@ -25,7 +25,6 @@ use totals::revise;
 ghost use mathlib.Core.Path.{_≡_};
 ghost use mathlib.Core.Bool.{false};
 ghost use Prim.Native.Nat.{_+_, _*_, _≤_, _<_};
-ghost use lib.ListN.{length};
 ghost use Rattle.total.specs.Total.{val};
 ghost use Rattle.ledger.specs.Bytes.{fields};
 ghost use Rattle.ledger.specs.Sheet.{mostRows, sizeFor, rowPlace, classOf};

@@ -79,6 +79,6 @@ eNegativeOf rounds c m1 = c ⊗ (when dec 9 1 ≤· m1 gives eMeanOf rounds (1·
 unfoldable pub ellipeWithin : ℕ → Float → Answer
 ellipeWithin rounds m = byDomain m (One 1·0) (Infinite false) (One (eNegativeOf rounds (rootOf (1·0 ⊖ m)) (m ⊘ (m ⊖ 1·0)))) (One (eBelowOneOf rounds m))
 
--- the file has no bound, and none shows: `ellipe-ends` (Ends.antt) has the same answer for every bound from 8 on
+-- the file has no bound, and none shows: `ellipe-ends` (identities, Ends) has the same answer for every bound from 8 on
 unfoldable pub ellipeOf : Float → Answer
 ellipeOf m = ellipeWithin 32 m

@@ -1,7 +1,6 @@
 -- What is proved of the three functions, for every f64.
 pub mod Values
-pub mod Ends
--- The lemmas, from the operations up: root and logarithm, the places of m, the runs of the mean, its end.
+-- The lemmas, from the operations up: root and logarithm, the places of m, the runs of the mean.
 pub mod Beneath
 pub mod Logarithms
 pub mod Decided
@@ -10,6 +9,3 @@ pub mod Starts
 pub mod Rounds
 pub mod Closing
 pub mod Running
-pub mod Ratios
-pub mod MeanRound
-pub mod StopTest

@@ -55,7 +55,7 @@ impl Sums {
     }
 }
 
-// The file's `while` has no bound; from 8 rounds on none shows (`ellipe-ends`).
+// The file's `while` has no bound; from 8 rounds on none shows (identities, `ellipe-ends`).
 pub(crate) fn last_sums(tolerance: f64, y0: f64) -> Sums
     ensures { λ r. ⌜ r ≡ lastSumsOf 32 tolerance y0 ⌝ }
 {

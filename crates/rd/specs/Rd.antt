@@ -6,9 +6,10 @@ use Rattle.laws.specs.Arithmetic.{_⊕_, _⊖_, _⊗_, _⊘_, _<·_, +0, 1·0, 
 use Rattle.root.specs.Root.{rootOf}
 use Rattle.whole.specs.Whole.{magnitudeOf}
 use Rattle.carlson.specs.Loop.{iterate, duplicated}
-use Rattle.carlson.specs.Series.{fifthOf, largerOf, rootsOf}
+use Rattle.carlson.specs.Series.{fifthOf, largerOf}
+use Rattle.rf.specs.Rf.{rootsOf}
 use Rattle.carlson.specs.declared.Outcome.{Outcome}
-use Rattle.carlson.specs.declared.Roots.{Roots}
+use Rattle.rf.specs.declared.Roots.{Roots}
 use Rattle.rd.specs.declared.State.{State}
 
 -- the mean A, in which z counts three times, and the largest distance between A and an argument

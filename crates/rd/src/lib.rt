@@ -4,10 +4,10 @@
 // The distance between the mean and the farthest argument is quartered; once it is below mean / 1024 the series that RJ shares closes.
 use carlson::Both;
 use carlson::Outcome;
-use carlson::Roots;
 use carlson::fifth;
 use carlson::larger;
-use carlson::roots_of;
+use rf::Roots;
+use rf::roots_of;
 ghost use mathlib.Core.Path.{_≡_};
 ghost use Rattle.rf.specs.Rf.{rfOf};
 ghost use Rattle.rd.specs.Rd.{startOf, stopsOf, nextOf, roundOf, closedOf, finishOf, rdOf};

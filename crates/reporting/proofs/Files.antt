@@ -1,12 +1,11 @@
 -- Files one after the other: what is held after each. Assumes nothing.
 use mathlib.Core.Path.{_≡_, refl, sym, ap, _∙_, subst}
 use Prim.Native.Nat.{ℕ, _+_, _-_, _≤_, _<_}
-use native.Mathlib.Nat.{zero-add, sub-zero}
 use native.Mathlib.Numerals.{add-one}
 use native.Mathlib.Omega.{arith}
 use mathlib.Core.Bool.{Bool, true, false, cond}
 use mathlib.Core.List.{List, [], _∷_, _++_}
-use lib.ListN.{length, take, drop, getD, set, replicate, length-set, length-replicate}
+use lib.ListN.{length, take, getD, set, replicate, length-set, length-replicate}
 use lib.Seq.{take-suc, take-suc-set}
 use Rattle.text.specs.Writing.{Put}
 use Rattle.month.specs.declared.parts.Report.{Report}

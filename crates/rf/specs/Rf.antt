@@ -6,8 +6,9 @@ use Rattle.laws.specs.Arithmetic.{_⊕_, _⊖_, _⊗_, _⊘_, _<·_, 1·0, 3·0
 use Rattle.root.specs.Root.{rootOf}
 use Rattle.whole.specs.Whole.{magnitudeOf}
 use Rattle.carlson.specs.Loop.{iterate, duplicated}
-use Rattle.carlson.specs.Series.{largerOf, spreadOf}
+use Rattle.carlson.specs.Series.{largerOf}
 use Rattle.carlson.specs.declared.Outcome.{Outcome}
+use Rattle.rf.specs.declared.Roots.{Roots}
 use Rattle.rf.specs.declared.State.{State}
 
 -- the mean A, and the largest distance between A and an argument
@@ -19,6 +20,14 @@ startOf x y z =
 -- the distance, quartered once a round, is below A / 512
 unfoldable pub stopsOf : State → Bool
 stopsOf s = s .distance <· s .mean ⊘ 512·0
+
+-- L = √x√y + √y√z + √z√x, by which a round of RF, RD or RJ moves its arguments
+abbrev pub spreadOf : Float → Float → Float → Float
+spreadOf x y z = rootOf x ⊗ rootOf y ⊕ rootOf y ⊗ rootOf z ⊕ rootOf z ⊗ rootOf x
+
+-- all that such a round takes of x, y and z
+unfoldable pub rootsOf : Float → Float → Float → Roots
+rootsOf x y z = record { x = rootOf x; y = rootOf y; z = rootOf z; spread = spreadOf x y z }
 
 -- each becomes (itself + L) / 4 (DLMF 19.26.18, 19.26.19)
 unfoldable pub nextOf : State → Float → State

@@ -3,9 +3,28 @@
 // The distance between the mean and the farthest argument is quartered; once it is below mean / 512 the arguments are so near to their mean that a series of fifth order closes.
 use carlson::Outcome;
 use carlson::larger;
-use carlson::roots_of;
 ghost use mathlib.Core.Path.{_≡_};
-ghost use Rattle.rf.specs.Rf.{startOf, stopsOf, nextOf, roundOf, closedOf, finishOf, rfOf};
+ghost use Rattle.rf.specs.Rf.{startOf, stopsOf, rootsOf, nextOf, roundOf, closedOf, finishOf, rfOf};
+
+// What a round of RF, RD or RJ takes of its arguments: their roots, and L = √x√y + √y√z + √z√x.
+pub struct Roots {
+    pub x: f64,
+    pub y: f64,
+    pub z: f64,
+    pub spread: f64,
+}
+
+pub fn roots_of(x: f64, y: f64, z: f64) -> Roots
+    ensures { λ r. ⌜ r ≡ rootsOf x y z ⌝ }
+{
+    let r = root::three(x, y, z);
+    Roots {
+        x: r.x,
+        y: r.y,
+        z: r.z,
+        spread: r.x * r.y + r.y * r.z + r.z * r.x,
+    }
+}
 
 // Three arguments, their mean, and the distance that the stop test reads. RD and RJ of the same arguments make RF's rounds with their own, which saves its roots.
 pub struct State {

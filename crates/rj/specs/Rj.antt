@@ -6,10 +6,11 @@ use Rattle.laws.specs.Arithmetic.{_⊕_, _⊖_, _⊗_, _⊘_, _<·_, +0, 1·0, 
 use Rattle.root.specs.Root.{rootOf}
 use Rattle.whole.specs.Whole.{magnitudeOf}
 use Rattle.carlson.specs.Loop.{iterate, duplicated}
-use Rattle.carlson.specs.Series.{fifthOf, largerOf, rootsOf, trustedOf}
+use Rattle.carlson.specs.Series.{fifthOf, largerOf, trustedOf}
+use Rattle.rf.specs.Rf.{rootsOf}
 use Rattle.rc.specs.Rc.{rcOf}
 use Rattle.carlson.specs.declared.Outcome.{Outcome}
-use Rattle.carlson.specs.declared.Roots.{Roots}
+use Rattle.rf.specs.declared.Roots.{Roots}
 use Rattle.rj.specs.declared.State.{State}
 
 -- the mean A, in which p counts twice, and the largest distance between A and an argument

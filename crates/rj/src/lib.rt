@@ -6,11 +6,11 @@
 // RJ is met only where its own stop test and that of every RC inside are.
 use carlson::Both;
 use carlson::Outcome;
-use carlson::Roots;
 use carlson::fifth;
 use carlson::larger;
-use carlson::roots_of;
 use carlson::trusted;
+use rf::Roots;
+use rf::roots_of;
 ghost use mathlib.Core.Path.{_≡_};
 ghost use Prim.Native.Nat.{_*_, _≤_};
 ghost use Rattle.rf.specs.Rf.{rfOf};

@@ -4,7 +4,6 @@ use mathlib.Core.List.{List, [], _++_}
 use lib.ListN.{length, take, drop}
 use lib.Dec.{eqb}
 use Rattle.laws.specs.Ladder.{when_gives_else_}
-use Rattle.answer.specs.declared.Counted.{Counted}
 use Rattle.sheet.specs.Functions.{countedOf}
 use Rattle.ledger.specs.Bytes.{number}
 use Rattle.ledger.specs.Sheet.{Row, functionIn}

@@ -7,7 +7,7 @@ use lib.Ieee.Scale.{finite}
 use Rattle.laws.specs.Arithmetic.{_⊕_, _⊗_, 4·0}
 use Rattle.scaling.specs.Clear.{isZero, ClearSum, ClearDifference, ClearProduct, ClearQuotient}
 use Rattle.root.specs.Root.{rootOf}
-use Rattle.carlson.specs.Series.{spreadOf}
+use Rattle.rf.specs.Rf.{spreadOf}
 
 abbrev pub ClearRoot : Float → Type 0
 ClearRoot x = T (finite (rootOf x))

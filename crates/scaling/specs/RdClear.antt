@@ -6,7 +6,7 @@ use Rattle.laws.specs.Arithmetic.{_⊕_, _⊗_, _⊘_, 3·0, 4·0, 5·0, 1024·
 use Rattle.scaling.specs.Clear.{ClearSum, ClearProduct, ClearQuotient}
 use Rattle.root.specs.Root.{rootOf}
 use Rattle.scaling.specs.ClearRuns.{ClearRoot, ClearQuarters, ClearDistances, ClearOffsets, ClearRun}
-use Rattle.carlson.specs.Series.{spreadOf}
+use Rattle.rf.specs.Rf.{spreadOf}
 use Rattle.rd.specs.declared.State.{State}
 use Rattle.rd.specs.Rd.{startOf, stopsOf, roundOf, seriesOf}
 

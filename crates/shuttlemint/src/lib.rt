@@ -17,7 +17,6 @@ ghost use Rattle.sheet.specs.Functions.{countedOf};
 ghost use Rattle.ledger.specs.Calls.{blankRefusal, blankOf, rowRefusal, timesOf, totalRefusal, totalOf, countOf};
 ghost use Rattle.inspection.specs.Rows.{classIn};
 ghost use Rattle.sheet.specs.Edit.{editRefusal, editOf};
-ghost use Rattle.conversion.specs.declared.Stop.{Stop};
 ghost use Rattle.conversion.specs.Conversion.{stopOf, convertedOf};
 ghost use Rattle.shuttlemint.specs.Face.{evaluateRefusal, evaluateOut, rowPlaceOf};
 

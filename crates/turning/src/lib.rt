@@ -3,8 +3,6 @@ use conversion::Stop;
 use files::Output;
 use files::WORD;
 use loading::MOST;
-ghost use mathlib.Core.Path.{_≡_};
-ghost use Rattle.ledger.specs.Calls.{rowsIn};
 ghost use Rattle.files.specs.Save.{Save};
 ghost use Rattle.files.specs.Output.{Wrote};
 ghost use Rattle.turning.specs.Turning.{numberLine, stopLine, Converted, Answered, Done, Ran};

@@ -3,7 +3,7 @@ use crate::kinds::Shown;
 use crate::kinds::agrees;
 use crate::kinds::words;
 use libc::STDOUT_FILENO;
-ghost use Prim.Native.Nat.{_<_, _≤_};
+ghost use Prim.Native.Nat.{_<_};
 
 // How many lines, how many of them differ, the number of the first that does, and the largest part of its bound
 // that an answer uses.

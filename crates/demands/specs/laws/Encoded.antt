@@ -6,15 +6,14 @@ use Prim.Native.Nat.{ℕ, zero, suc, _+_, _-_, _*_, _%_, _≤_, _<_}
 use native.Mathlib.Nat.{mod-lt, add-assoc, add-zero}
 use native.Mathlib.Omega.{arith}
 use borrow.Author.Tests.{eq-eqb, ne-eqb, le-leb, leb-false}
-use lib.Dec.{leb, ltb}
+use lib.Dec.{leb}
 use lib.ListN.{length, take, drop, getD, set, length-append, length-set, drop-of-length-le}
 use lib.Seq.{take-at, drop-at, take-all}
-use Rattle.answer.specs.Numbers.{last}
 use Rattle.total.specs.Total.{N}
 use Rattle.total.specs.laws.Limbs.{N-pos}
 use Rattle.laws.specs.Splice.{splice}
 use Rattle.ledger.specs.Bytes.{bytes, number, fields, read}
-use Rattle.ledger.specs.Sheet.{Row, withTimes, withoutTimes, rowPlace, sizeFor, entries, classOf, totals, count, counts, sum, flat, encode}
+use Rattle.ledger.specs.Sheet.{Row, withTimes, rowPlace, sizeFor, entries, classOf, totals, count, counts, sum, flat, encode}
 use Rattle.ledger.specs.Calls.{rowsIn, rowIn, countsIn, totalIn, equal, isSheetOf, isSheet, miscounted, damaged, functionRungs, rungs, totalRefusal, revised, edited}
 use Rattle.sheet.specs.Edit.{editRefusal}
 use Rattle.laws.specs.laws.Splices.{take-past, drop-past}

@@ -7,8 +7,8 @@ use native.Mathlib.Omega.{arith}
 use borrow.Author.Tests.{eq-eqb, eqb-true}
 use lib.Dec.{eqb}
 use lib.ListN.{length}
-use Rattle.ledger.specs.Sheet.{Row, encode}
-use Rattle.demands.specs.Edits.{Edit, answer, after, run, answerIn, accepted, worked, lastRow, freshFrom, fresh}
+use Rattle.ledger.specs.Sheet.{Row}
+use Rattle.demands.specs.Edits.{Edit, answer, after, run, answerIn, accepted, worked, lastRow, freshFrom}
 use Rattle.demands.specs.Shuffles.{own, Shuffle, told, Reordered, none, same, swap, then}
 
 -- ---- bytes

@@ -1,7 +1,7 @@
 -- The total of at most 1,024 rows is the whole-number sum of times by finite first answers, and it never wraps. Assumes nothing.
 use mathlib.Core.Path.{_≡_, refl, ap, _∙_, sym}
 use mathlib.Core.Bool.{Bool, true, false, cond}
-use mathlib.Core.List.{List, [], _∷_}
+use mathlib.Core.List.{List}
 use Prim.Native.Nat.{ℕ, _+_, _-_, _*_, _%_, _^_, _≤_, _<_}
 use native.Mathlib.Nat.{add-mod, mod-add-mod, mod-lt, mod-eq-of-lt, mod-eq-sub-mod, mod-self, zero-mod, suc-mul, le-trans, le-of-lt, lt-of-le-of-lt, lt-of-lt-of-le, mul-le-mul-right}
 use native.Mathlib.Omega.{arith}

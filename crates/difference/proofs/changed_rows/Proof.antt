@@ -1,12 +1,10 @@
 -- The invariant: the rows that differ among those passed, and they are no more than those.
-use mathlib.Core.Path.{_≡_, refl, _∙_, sym, ap}
+use mathlib.Core.Path.{_≡_, refl, _∙_, ap}
 use mathlib.Core.Bool.{Bool, true, false, cond}
-use mathlib.Core.List.{List}
-use Prim.Native.Nat.{ℕ, zero, suc, _+_, _-_, _≤_, _<_}
+use Prim.Native.Nat.{ℕ, _+_, _-_, _≤_}
 use native.Mathlib.Numerals.{add-one}
 use native.Mathlib.Omega.{arith}
 use borrow.Author.Needs.{needs}
-use Rattle.ledger.specs.Calls.{rowsIn, isSheet}
 use Rattle.ledger.specs.laws.Refusals.{sheet-few, no-sheet, a-sheet}
 use Rattle.difference.specs.Difference.{agree, changes, rowsOf}
 use Rattle.difference.proofs.changed_rows.Statement.{statement}

@@ -16,21 +16,21 @@ exact-total-requires-2 c κs = search needs
 raised-requires-2 : tie.Need-raised-requires-2
 raised-requires-2 c κs = search needs
 
-less-requires : tie.Need-less-requires
-less-requires c κs = search needs
+minus-requires : tie.Need-minus-requires
+minus-requires c κs = search needs
 
 returns : tie.Need-returns
 returns c =
-    let l = c .before .before .before .less .ensures in
+    let l = c .before .before .before .minus .ensures in
     grows _ _ _ _ _ _ (c .before .before .before .before .before .before .before .exact-total .ensures) (c .before .before .before .before .before .exact-total2 .ensures) (c .before .before .before .before .before .before .raised .ensures .1) (c .before .before .before .before .raised2 .ensures .1) (c .before .before .before .before .before .before .raised .ensures .0) (c .before .before .before .before .raised2 .ensures .0) _ _ (l .0) (c .before .if1 .taken)
 
-less-requires-2 : tie.Need-less-requires-2
-less-requires-2 c κs = search needs
+minus-requires-2 : tie.Need-minus-requires-2
+minus-requires-2 c κs = search needs
 
 returns-2 : tie.Need-returns-2
 returns-2 c =
-    let l = c .before .before .before .before .less .ensures in
-    let m = c .before .less2 .ensures in
+    let l = c .before .before .before .before .minus .ensures in
+    let m = c .before .minus2 .ensures in
     shrinks _ _ _ _ _ _ (c .before .before .before .before .before .before .before .before .exact-total .ensures) (c .before .before .before .before .before .before .exact-total2 .ensures) (c .before .before .before .before .before .before .before .raised .ensures .1) (c .before .before .before .before .before .raised2 .ensures .1) (c .before .before .before .before .before .before .before .raised .ensures .0) (c .before .before .before .before .before .raised2 .ensures .0) _ _ (l .0) (l .1) (c .before .before .if1 .left) _ _ (m .0) (m .1)
 
 pub grown-spec : {M : Type 1} → statement M
@@ -41,7 +41,7 @@ grown-spec =
     raised-requires
     exact-total-requires-2
     raised-requires-2
-    less-requires
+    minus-requires
     returns
-    less-requires-2
+    minus-requires-2
     returns-2)

@@ -1,15 +1,15 @@
 -- Stored totals raised by half of the modulus lie as far apart as those that they stand for. Assumes nothing.
 use mathlib.Core.Path.{_≡_, refl, ap, _∙_, sym}
 use mathlib.Core.Logic.{inl, inr}
-use Prim.Native.Nat.{ℕ, _+_, _-_, _*_, _^_, _≤_, _<_}
+use Prim.Native.Nat.{ℕ, _+_, _-_, _≤_, _<_}
 use native.Mathlib.Omega.{arith}
 use borrow.Author.Tests.{lt-ltb, le-ltb}
-use lib.IntN.{ℤ, pos, negsuc, negℤ, natAbs, subℕ, _+ℤ_, _-ℤ_}
+use lib.IntN.{pos, subℕ, _+ℤ_, _-ℤ_}
 use Rattle.laws.specs.laws.Flags.{lt-or-le}
 use Rattle.total.specs.Total.{N, Half}
-use Rattle.difference.specs.Difference.{signedOf, belowZero}
+use Rattle.difference.specs.Difference.{signedOf}
 use Rattle.difference.specs.Limbs.{raisedOf}
-use Rattle.difference.specs.laws.Whole.{sub-up, sub-down, minus-is, taken-from, moved-both}
+use Rattle.difference.specs.laws.Whole.{sub-up, minus-is, taken-from, moved-both}
 
 pub halves : N ≡ Half + Half
 unfolding N Half

@@ -1,13 +1,13 @@
 -- Which bit patterns are finite. Assumes nothing.
-use mathlib.Core.Path.{_≡_, refl, ap, _∙_, sym}
+use mathlib.Core.Path.{_≡_, refl, _∙_}
 use mathlib.Core.Bool.{Bool, true, false, not, cond}
 use mathlib.Core.Logic.{inl, inr}
-use Prim.Native.Nat.{ℕ, zero, suc, _+_, _*_, _/_, _%_, _^_, _≤_, _<_}
+use Prim.Native.Nat.{ℕ, zero, suc, _+_, _/_, _%_, _^_, _<_}
 use native.Mathlib.Nat.{mod-lt}
 use native.Mathlib.Omega.{arith}
 use borrow.Author.Tests.{lt-ltb, le-ltb, eq-eqb, ne-eqb}
 use lib.Dec.{ltb, eqb, lit<}
-use lib.Ieee.{Float, nan, inf, fin, binary64, odd, ofFields, ofBits, ones, hid, top}
+use lib.Ieee.{nan, inf, binary64, odd, ofFields, ofBits}
 use lib.Ieee.Scale.{finite}
 use Rattle.laws.specs.Arithmetic.{float}
 use Rattle.laws.specs.laws.Flags.{lt-or-le}

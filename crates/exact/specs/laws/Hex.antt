@@ -1,14 +1,14 @@
 -- A number that takes many limbs: its digits are those of what stands above its lowest limb, then all 16 of that limb. Assumes nothing.
 use mathlib.Core.Path.{_≡_, refl, sym, ap, _∙_}
 use Prim.Native.Nat.{ℕ, zero, suc, _+_, _*_, _-_, _/_, _%_, _^_, _≤_, _<_}
-use native.Mathlib.Nat.{pow-suc, pow-succ', pow-zero, one-le-pow, mul-pos, mul-suc, add-suc, add-zero, mul-assoc, le-mul-of-pos-right, le-trans, add-mul-div-left, add-mul-mod-self-left, div-lt-iff-lt-mul}
+use native.Mathlib.Nat.{pow-suc, pow-succ', pow-zero, one-le-pow, mul-pos, mul-suc, add-suc, add-zero, mul-assoc, le-mul-of-pos-right, add-mul-div-left, add-mul-mod-self-left, div-lt-iff-lt-mul}
 use native.Mathlib.Numerals.{add-one}
 use native.Mathlib.Omega.{arith}
-use mathlib.Core.Bool.{Bool, true, false, cond, not, _&&_, _||_}
+use mathlib.Core.Bool.{Bool, true, false, cond, _&&_, _||_}
 use mathlib.Core.List.{List, [], _∷_, _++_, append-assoc, append-nil}
 use lib.ListN.{length, drop, getD, length-append}
 use lib.Seq.{drop-cons, drop-length}
-use lib.Dec.{ltb, lit≤}
+use lib.Dec.{ltb}
 use borrow.Author.Tests.{lt-ltb, le-ltb, ltb-true, ltb-false}
 use Rattle.total.specs.Total.{val}
 use Rattle.text.specs.Text.{glyphOf, digitsOf}

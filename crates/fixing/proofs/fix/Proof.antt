@@ -1,5 +1,4 @@
 -- The file can not be read, or its bytes are looked at.
-use mathlib.Core.Path.{_∙_}
 use native.Mathlib.Nat.{sub-zero}
 use borrow.Author.Tests.{not-true, not-false}
 use mir.Syntax.{w32}

@@ -5,7 +5,6 @@ use mathlib.Core.Bool.{Bool, true, false, not, _&&_, true≢false}
 use lib.Dec.{T, eqb, eqb-refl}
 use lib.Ieee.{Float, nan, inf, fin, up, down, isNan, ne, eq}
 use lib.Ieee.Compare.{differs-from-itself}
-use lib.Ieee.Scale.{finite}
 use Rattle.laws.specs.laws.Flags.{holds}
 
 -- `x != x`

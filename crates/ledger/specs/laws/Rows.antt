@@ -2,12 +2,11 @@
 use mathlib.Core.Path.{_≡_, refl, ap, _∙_, sym}
 use mathlib.Core.List.{List, [], _∷_}
 use Prim.Native.Nat.{ℕ, _+_, _*_, _/_, _%_, _^_, _<_}
-use native.Mathlib.Nat.{div-div-eq-div-mul}
 use native.Mathlib.Omega.{arith}
 use lib.ListN.{length, take, drop, getD}
 use Rattle.laws.specs.Arithmetic.{float}
 use Rattle.ledger.specs.Bytes.{bytes, number, fields}
-use Rattle.ledger.specs.Sheet.{functionIn, refusalIn, timesIn, firstIn, rowBytes}
+use Rattle.ledger.specs.Sheet.{functionIn, refusalIn, firstIn, rowBytes}
 use Rattle.ledger.specs.laws.Fields.{length-fields, number-bytes}
 
 -- the first word is function, refusal number and times
@@ -21,15 +20,6 @@ row-words f q k xs h g l =
     let e : k / 256 / 256 ≡ 0 = omega arith in
     rw (a, b, c, d, e)
 
--- what is kept of times
-two-bytes : (k : ℕ) → number (bytes 2 k) ≡ k % 65536
-unfolding number bytes
-two-bytes k = omega arith
-
-pub times-row : (f q k : ℕ) (xs : List ℕ) → timesIn (rowBytes f q k xs) ≡ k % 65536
-unfolding timesIn rowBytes bytes
-times-row f q k xs = two-bytes k
-
 pub length-words : (l : List ℕ) → length l ≡ 6 → length (fields 8 l) ≡ 48
 length-words l h = length-fields 8 l ∙ ap (λ (n : ℕ). 8 * n) h
 
@@ -42,11 +32,6 @@ pub refusal-words : (l : List ℕ) → length l ≡ 6 → getD l 0 0 / 256 % 256
 unfolding refusalIn fields bytes
 refusal-words [] h = absurd (let z : ⊥ = omega arith in z)
 refusal-words (x ∷ l) h = refl
-
-pub times-words : (l : List ℕ) → length l ≡ 6 → getD l 0 0 / 65536 % 65536 ≡ timesIn (fields 8 l)
-unfolding timesIn fields bytes
-times-words [] h = absurd (let z : ⊥ = omega arith in z)
-times-words (x ∷ l) h = ap (λ (n : ℕ). n % 65536) (sym (div-div-eq-div-mul x 256 256)) ∙ sym (two-bytes (x / 256 / 256))
 
 -- the fifth is the first answer
 fifth : (l : List ℕ) → length l ≡ 6 → bytes 8 (getD l 4 0) ≡ take 8 (drop 32 (fields 8 l))

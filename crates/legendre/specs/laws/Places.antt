@@ -6,7 +6,7 @@ use native.Mathlib.Nat.{le-of-eq, le-of-lt, lt-of-lt-of-le, zero-mul, mul-comm, 
 use native.Mathlib.Omega.{arith}
 use lib.Arith.{lt-of-le-ne}
 use lib.IntN.{ℤ}
-use lib.Dec.{T, ltb, eqb, ltb→lt, nltb→le, eqb-refl}
+use lib.Dec.{T, eqb, ltb→lt, nltb→le, eqb-refl}
 use lib.Pow.{pow-pos}
 use lib.Ieee.{Float, nan, inf, fin, binary64, up, down, fits, lt, eq, ne, ofBits}
 use lib.Ieee.Bits.{is-true}

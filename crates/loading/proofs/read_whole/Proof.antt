@@ -1,8 +1,7 @@
 -- The reads so far brought the bytes so far.
-use mathlib.Core.Path.{_≡_, sym, ap, _∙_}
-use Prim.Native.Nat.{ℕ, _-_, _≤_}
+use mathlib.Core.Path.{_≡_, sym, _∙_}
+use Prim.Native.Nat.{_-_, _≤_}
 use native.Mathlib.Omega.{arith}
-use lib.IntN.{ℤ}
 use lib.ListN.{length, drop, length-drop}
 use mir.Val.{toZ, ofZ}
 use mir.Syntax.{w32, w64}

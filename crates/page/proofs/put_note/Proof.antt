@@ -1,5 +1,4 @@
 -- The words, then the number.
-use Prim.Native.Nat.{_≤_}
 use native.Mathlib.Omega.{arith}
 use mathlib.Core.List.{_++_, append-assoc}
 use lib.ListN.{length}

@@ -2,7 +2,7 @@
 use native.Mathlib.Omega.{arith}
 use Prim.Native.Nat.{_-_}
 use borrow.Author.Needs.{needs}
-use Rattle.rc.specs.Rc.{startOf, stopsOf, roundOf, closedOf, rcOf}
+use Rattle.rc.specs.Rc.{stopsOf, roundOf, closedOf, rcOf}
 use Rattle.carlson.specs.Loop.{duplicated}
 use Rattle.carlson.specs.laws.Duplication.{Holds, at-next, where-met, where-spent}
 use Rattle.rc.proofs.rc.Statement.{statement}

@@ -1,10 +1,9 @@
 -- RF among the recipes that make their rounds together. Assumes nothing.
 use mathlib.Core.Path.{_≡_, refl, sym, ap, _∙_}
-use Rattle.carlson.specs.Series.{spreadOf, rootsOf}
-use Rattle.carlson.specs.declared.Roots.{Roots}
-use Rattle.carlson.specs.laws.Together.{Arguments, Recipe, Moves}
+use Rattle.rf.specs.Rf.{spreadOf, rootsOf, stopsOf, nextOf, roundOf, closedOf}
+use Rattle.rf.specs.declared.Roots.{Roots}
+use Rattle.rf.specs.laws.Together.{Arguments, Recipe, Moves}
 use Rattle.rf.specs.declared.State.{State}
-use Rattle.rf.specs.Rf.{stopsOf, nextOf, roundOf, closedOf}
 
 abbrev pub rf-recipe : Recipe State
 rf-recipe = record { stops = stopsOf; round = roundOf; closed = closedOf; at = λ s. record { x = s .x; y = s .y; z = s .z } }

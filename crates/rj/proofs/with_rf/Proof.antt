@@ -3,7 +3,7 @@ use mathlib.Core.Path.{refl, ap, _∙_}
 use native.Mathlib.Omega.{arith}
 use Prim.Native.Nat.{_-_, _≤_, _*_}
 use borrow.Author.Needs.{needs}
-use Rattle.carlson.specs.laws.Together.{Together, begun, onward}
+use Rattle.rf.specs.laws.Together.{Together, begun, onward}
 use Rattle.rf.specs.Rf as Rf
 use Rattle.rf.specs.laws.Moves.{rf-recipe, rf-moves, alongside}
 use Rattle.rj.specs.Rj.{startOf, nextOf, roundOf, finishOf, rjOf}

@@ -1,7 +1,7 @@
 -- RJ among the recipes that make their rounds together. Assumes nothing.
 use mathlib.Core.Path.{refl}
-use Rattle.carlson.specs.Series.{rootsOf}
-use Rattle.carlson.specs.laws.Together.{Arguments, Recipe, Moves}
+use Rattle.rf.specs.Rf.{rootsOf}
+use Rattle.rf.specs.laws.Together.{Recipe, Moves}
 use Rattle.rj.specs.declared.State.{State}
 use Rattle.rj.specs.Rj.{stopsOf, nextOf, roundOf, closedOf}
 

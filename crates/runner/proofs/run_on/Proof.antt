@@ -1,6 +1,5 @@
 -- No sheet, or a run from it.
 use mathlib.Core.Path.{refl, sym}
-use native.Mathlib.Omega.{arith}
 use mir.Syntax.{w32}
 use mir.ValLaws.{toZ-ofZ}
 use Rattle.ledger.specs.laws.Refusals.{a-sheet, no-sheet}

@@ -2,7 +2,7 @@
 -- whole input (Run.antt), which is 01's "The program reads standard input". `startOf`, `fixingOf`, `feedOf`, `finishOf` and `endedOf` are the definitions that the
 -- contracts of the calls `start`, `fixing`, `feed`, `finish` and of `outcome` cite, so this speaks of what the code does between a read and a write. What is printed, and
 -- what is saved, follow from what a run comes to. Assumes nothing.
-use mathlib.Core.Path.{_≡_, refl, sym, ap, _∙_}
+use mathlib.Core.Path.{_≡_, refl, ap, _∙_}
 use Prim.Native.Nat.{ℕ, _+_, _^_, _<_}
 use mathlib.Core.Bool.{true, false}
 use mathlib.Core.List.{List, [], _∷_, _++_}

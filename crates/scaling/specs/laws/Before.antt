@@ -17,7 +17,7 @@ use Rattle.answer.specs.Settle.{infiniteOf}
 use Rattle.incomplete.specs.Scaling.{largeOf}
 use Rattle.ellipeinc.specs.Ellipeinc.{ownOf, cancelling}
 use Rattle.ellipf.specs.Ellipf.{middleOf}
-use Rattle.identities.specs.Angles.{folded-reach}
+use Rattle.identities.specs.laws.Angles.{folded-reach}
 use Rattle.scaling.specs.Before.{Same, angleOf, sinOf, cosOf, C, C1, Given, AsBefore}
 use Rattle.scaling.specs.Moderate.{moderate}
 use Rattle.scaling.specs.laws.Moderate.{rf-as-before-moderate, moderate-finite, quarter-finite, finite-small}

@@ -24,7 +24,7 @@ use Rattle.whole.specs.laws.Magnitude.{magnitude-fin}
 use Rattle.incomplete.specs.declared.Fold.{Fold}
 use Rattle.incomplete.specs.Period.{foldedOf}
 use Rattle.ellipeinc.specs.Ellipeinc.{ownOf}
-use Rattle.identities.specs.Angles.{P}
+use Rattle.identities.specs.laws.Angles.{P}
 use Rattle.scaling.specs.laws.Operations.{grid-exact, lt-units}
 
 -- ± units, at most 7/4

@@ -1,7 +1,7 @@
 -- Values that are zero or from 2 ^ i to 2 ^ j units of 2 ^ -1074 in size: squares, quotients and differences of such. A difference need not be as small as it may look, since both f64 are multiples of a common place. Assumes nothing.
 use mathlib.Core.Path.{_≡_, refl, sym, ap, _∙_, subst}
 use mathlib.Core.Logic.{_⊎_, inl, inr}
-use mathlib.Core.Bool.{Bool, true, false, not}
+use mathlib.Core.Bool.{Bool, true, false}
 use Prim.Native.Nat.{ℕ, zero, suc, _+_, _*_, _^_, _≤_, _<_}
 use native.Mathlib.Nat.{le-trans, le-of-eq, zero-lt-suc, zero-mul, mul-pos, mul-le-mul-right}
 use native.Mathlib.Omega.{arith}

@@ -8,7 +8,8 @@ use lib.Ieee.Fits.{add-fits}
 use Rattle.laws.specs.Arithmetic.{_⊗_, 3·0, 4·0, 5·0, 8·0, 1024·0}
 use Rattle.scaling.specs.laws.Operations.{Times, times-as, times-own, times-zero, times-add, times-mul, times-div, times-over, times-by, times-lt, multiplied}
 use Rattle.scaling.specs.laws.Root.{times-root}
-use Rattle.carlson.specs.Series.{rootsOf, fifthOf}
+use Rattle.carlson.specs.Series.{fifthOf}
+use Rattle.rf.specs.Rf.{rootsOf}
 use Rattle.scaling.specs.laws.Recipes.{times-distance, times-spread, times-quarter, offset-same, Over, Divided, over-divided, scaled-run}
 use Rattle.rd.specs.declared.State.{State}
 use Rattle.rd.specs.Rd.{startOf, stopsOf, nextOf, roundOf, seriesOf, closedOf, rdOf}

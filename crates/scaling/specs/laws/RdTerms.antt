@@ -21,7 +21,8 @@ use Rattle.laws.specs.laws.Rounding.{round-value, units-over}
 use Rattle.laws.specs.laws.Sizes.{finite-of, grid-mono, grid-least}
 use Rattle.root.specs.Root.{rootOf}
 use Rattle.legendre.specs.laws.Beneath.{within-root}
-use Rattle.carlson.specs.Series.{least, rootsOf, spreadOf}
+use Rattle.carlson.specs.Series.{least}
+use Rattle.rf.specs.Rf.{rootsOf, spreadOf}
 use Rattle.carlson.specs.laws.Counts.{after}
 use Rattle.rd.specs.declared.State.{State}
 use Rattle.rd.specs.Rd.{startOf, nextOf, roundOf}

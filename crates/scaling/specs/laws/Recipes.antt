@@ -12,7 +12,8 @@ use Rattle.scaling.specs.laws.Root.{times-root}
 use Rattle.whole.specs.Whole.{magnitudeOf}
 use Rattle.whole.specs.laws.Magnitude.{magnitude-value}
 use Rattle.carlson.specs.Loop.{iterate, duplicated}
-use Rattle.carlson.specs.Series.{largerOf, spreadOf}
+use Rattle.carlson.specs.Series.{largerOf}
+use Rattle.rf.specs.Rf.{spreadOf}
 use Rattle.carlson.specs.declared.Outcome.{Outcome}
 use Rattle.scaling.specs.ClearRuns.{ClearSpread, ClearQuarter, ClearDistances, ClearRun}
 

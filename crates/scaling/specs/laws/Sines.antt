@@ -22,8 +22,8 @@ use Rattle.bounds.specs.Close.{distanceOf}
 use Rattle.angle.specs.Alternating.{squareOf, alternatingOf}
 use Rattle.angle.specs.Sine.{sineAt, sineOf}
 use Rattle.angle.specs.Cosine.{cosineAt, cosineOf}
-use Rattle.identities.specs.SineAnswered.{sine-answers, cosine-answers}
-use Rattle.identities.specs.Angles.{in-reach, in-reach-size}
+use Rattle.identities.specs.laws.SineAnswered.{sine-answers, cosine-answers}
+use Rattle.identities.specs.laws.Angles.{in-reach, in-reach-size}
 use Rattle.scaling.specs.laws.Ranges.{Ranged, ranged-round, within-square}
 use Rattle.scaling.specs.laws.Moderate.{least-back}
 

@@ -1,6 +1,5 @@
 -- The words, then the digits that were put at the start of the buffer.
-use mathlib.Core.Path.{ap, subst}
-use native.Mathlib.Nat.{sub-zero}
+use mathlib.Core.Path.{subst}
 use native.Mathlib.Omega.{arith}
 use mathlib.Core.List.{List}
 use Prim.Native.Nat.{ℕ}

@@ -1,5 +1,4 @@
 -- By the number, then by the row.
-use Rattle.laws.specs.Ladder.{held, passed}
 use Rattle.turning.specs.Turning.{stopLine}
 use borrow.Author.Tests.{eq-eqb, ne-eqb}
 use borrow.Author.Needs.{needs}

@@ -1,6 +1,5 @@
 -- Two bytes in decimal.
 use native.Mathlib.Omega.{arith}
-use lib.ListN.{getD}
 use Rattle.ledger.specs.Sheet.{functionIn, refusalIn}
 use Rattle.text.specs.laws.Digits.{field-length}
 use Rattle.text.specs.laws.Writing.{placed-both}

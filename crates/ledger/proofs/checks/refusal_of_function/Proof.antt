@@ -1,5 +1,4 @@
 -- Test by test.
-use mathlib.Core.Path.{_≡_}
 use borrow.Author.Tests.{eq-eqb, ne-eqb, lt-ltb, le-ltb}
 use borrow.Author.Needs.{needs}
 use Rattle.ledger.proofs.row.function_of.Reads as function-of-reads

@@ -1,6 +1,5 @@
 -- The body is the definition, each call replaced by what it ensures.
-use Rattle.carlson.specs.Series.{rootsOf}
-use Rattle.rf.specs.Rf.{roundOf}
+use Rattle.rf.specs.Rf.{rootsOf, roundOf}
 use borrow.Author.Needs.{needs}
 use Rattle.rf.proofs.State.round.Statement.{statement}
 use Rattle.rf.proofs.State.round.Tie as tie

@@ -26,9 +26,10 @@ use Rattle.answer.specs.declared.Counted.{Counted}
 use Rattle.incomplete.specs.Period.{far-out, foldedOf}
 use Rattle.ellipeinc.specs.Ellipeinc.{signOf, itselfOf, farOf, lineOf, ownOf, withPeriodsOf, byRecipeOf, reducedOf, onSizeOf, countedOf, ellipeincOf}
 use Rattle.whole.specs.laws.Magnitude.{magnitude-nan, magnitude-neg}
-use Rattle.identities.specs.Signs.{mul-neg}
+use Rattle.identities.specs.laws.Signs.{mul-neg}
 use Rattle.laws.specs.laws.Kinds.{differs-is}
-use Rattle.identities.specs.Odd.{turnOf, turnedOf, same-kind, one-turned, after, rung, handed-odd}
+use Rattle.identities.specs.Turned.{turnOf, turnedOf}
+use Rattle.identities.specs.laws.Odd.{same-kind, one-turned, after, rung, handed-odd}
 
 abbrev answer : Counted → Answer
 answer c = c .answer

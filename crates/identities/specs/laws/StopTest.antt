@@ -14,13 +14,13 @@ use lib.Ieee.Scale.{grid, normal-of-rounded}
 use Rattle.laws.specs.Arithmetic.{_⊖_, _⊗_, _≤·_, dec}
 use Rattle.laws.specs.laws.Rounding.{grid-near, round-value}
 use Rattle.whole.specs.Whole.{magnitudeOf}
 use Rattle.legendre.specs.Mean.{goesOnOf}
 use Rattle.legendre.specs.Ellipe.{eTolerance}
 use Rattle.laws.specs.laws.Operations.{mul-is, gap-most, difference}
 use Rattle.whole.specs.laws.Magnitude.{magnitude-value}
 use Rattle.laws.specs.laws.Sizes.{units-le, grid-most, below-overflow}
-use Rattle.legendre.specs.laws.Ratios.{near-hi, cancel}
-use Rattle.legendre.specs.laws.MeanRound.{Rounded, rounded, State}
+use Rattle.identities.specs.laws.Ratios.{near-hi, cancel}
+use Rattle.identities.specs.laws.MeanRound.{Rounded, rounded, State}
 
 -- ---- the constant 2.7 · 2^-52, exactly
 pub tolerance-value : HasValue eTolerance false 3039929748475085 (2 ^ 102)

@@ -6,7 +6,8 @@ use Rattle.laws.specs.Arithmetic.{float, +0, 1·0, 2·0, 3·0, 4·0}
 use Rattle.root.specs.Root.{rootOf}
 use Rattle.whole.specs.Whole.{magnitudeOf}
 use Rattle.carlson.specs.Loop.{iterate, duplicated}
-use Rattle.carlson.specs.Series.{largerOf, rootsOf, fifthOf}
+use Rattle.carlson.specs.Series.{largerOf, fifthOf}
+use Rattle.rf.specs.Rf.{rootsOf}
 use Rattle.rd.specs.Rd.{startOf, stopsOf, nextOf, roundOf, closedOf, seriesOf, rdOf}
 
 pub record Corners : Type 0 where

@@ -19,7 +19,7 @@ use Rattle.answer.specs.declared.Answer.the-variants.{One, Pair, Infinite, Refu
 use Rattle.angle.specs.Sine.{sineOf}
 use Rattle.angle.specs.Alternating.{squareOf, alternatingOf, upToFour}
 use Rattle.angle.specs.Cosine.{cosineAt, cosineOf}
-use Rattle.identities.specs.Symmetry.{negated, sine-odd, sine-zero, sine-minus-zero}
+use Rattle.identities.specs.laws.Symmetry.{sine-odd, sine-zero, sine-minus-zero}
 use Rattle.legendre.specs.Ellipk.{kUncheckedOf}
 use Rattle.whole.specs.Whole.{magnitudeOf, roundOf}
 use Rattle.root.specs.Root.{rootOf}
@@ -27,7 +27,9 @@ use Rattle.carlson.specs.Loop.{iterate, duplicated}
 use Rattle.carlson.specs.Series.{largerOf}
 use Rattle.rf.specs.Rf.{rfOf, startOf, stopsOf, seriesOf}
 use Rattle.rf.specs.Rf as Rf
-use Rattle.identities.specs.RfUnmet.{rf-unmet}
+use Rattle.identities.specs.Turned.{turnOf, turnedOf}
+use Rattle.identities.specs.Unreduced.{unreducedOf}
+use Rattle.identities.specs.laws.RfUnmet.{rf-unmet}
 use Rattle.answer.specs.declared.Term.{Term}
 use Rattle.incomplete.specs.declared.Fold.{Fold}
 use Rattle.answer.specs.Settle.{infiniteOf, finiteOf, settledOf, handedOf, unaskedOf}
@@ -37,10 +39,10 @@ use Rattle.incomplete.specs.Period.{far-out, foldedOf}
 use Rattle.incomplete.specs.Scaling.{λ4, largeOf}
 use Rattle.ellipf.specs.Ellipf.{signumOf, poleOf, farOf, middleOf, recipeOf, closedOf, withPeriodsOf, reducedOf, countedOf, ellipfOf}
 use Rattle.whole.specs.laws.Magnitude.{magnitude-inf, magnitude-fin, magnitude-neg}
-use Rattle.identities.specs.Signs.{mul-neg, square-neg, plain, round-plain}
-use Rattle.identities.specs.Odd.{turnOf, turnedOf, same-kind, one-turned, after, rung, handed-odd}
+use Rattle.identities.specs.laws.Signs.{mul-neg, square-neg, plain, round-plain}
+use Rattle.identities.specs.laws.Odd.{same-kind, one-turned, after, rung, handed-odd}
 use Rattle.answer.specs.laws.Rounds.{answer-of}
-use Rattle.identities.specs.Angles.{P, quarter, quarter-finite}
+use Rattle.identities.specs.laws.Angles.{P, quarter, quarter-finite}
 
 abbrev answer : Counted → Answer
 answer c = c .answer
@@ -100,14 +102,6 @@ unfolding reducedOf
 reduced-answer sign size m =
     let s = valueOf (sineOf (foldedOf size .angle)) in
     answer-of (1·0 ≤· m ⊗ (s ⊗ s)) (unaskedOf (Refused 3)) _
-
--- ellipf without the reduction
-unfoldable pub unreducedOf : Float → Float → Answer
-unreducedOf φ m =
-    let sine = valueOf (sineOf (magnitudeOf φ)) in
-    let t = recipeOf 1·0 m sine (valueOf (cosineOf (magnitudeOf φ))) in
-    when 1·0 ≤· m ⊗ (sine ⊗ sine) gives Refused 3 else
-    closedOf m (t .met) (signumOf φ ⊗ t .value)
 
 -- past the tests, where m ≥ 1
 module _ (φ m : Float) (f : T (fits binary64 φ)) (k : (φ ≠· φ) ≡ false) (one : (1·0 ≤· m) ≡ true) (p : poleOf φ m ≡ false) where
@@ -436,11 +430,11 @@ pole-even : (φ m : Float) → poleOf (neg φ) m ≡ poleOf φ m
 unfolding poleOf
 pole-even φ m = ap₂ (λ (a x : Float). 1·0 ≤· m && (π/2 ≤· a || 1·0 ≤· m ⊗ x)) (magnitude-neg φ) (ap (λ (a : Answer). valueOf a ⊗ valueOf a) (sine-odd φ) ∙ ap (λ (x : Float). x ⊗ x) (value-neg (sineOf φ)) ∙ square-neg binary64 (valueOf (sineOf φ)))
   where
-    value-neg : (a : Answer) → valueOf (negated a) ≡ neg (valueOf a)
-    value-neg (One x) = unfold valueOf negated in refl
-    value-neg (Pair x y) = unfold valueOf negated in refl
-    value-neg (Infinite s) = unfold valueOf negated neg in refl
-    value-neg (Refused n) = unfold valueOf negated neg in refl
+    value-neg : (a : Answer) → valueOf (turnOf a) ≡ neg (valueOf a)
+    value-neg (One x) = unfold valueOf turnOf in refl
+    value-neg (Pair x y) = unfold valueOf turnOf in refl
+    value-neg (Infinite s) = unfold valueOf turnOf neg in refl
+    value-neg (Refused n) = unfold valueOf turnOf neg in refl
 
 odd-of : (φ m : Float) → signumOf (neg φ) ≡ neg (signumOf φ) → (m =· -∞) ≡ false → countedOf (neg φ) m ≡ turnedOf (countedOf φ m)
 unfolding countedOf turnOf

@@ -5,7 +5,7 @@ use lib.Dec.{T}
 use lib.Ieee.{Float, ofBits}
 use lib.Ieee.Scale.{finite}
 use Rattle.laws.specs.Arithmetic.{_⊕_, _⊗_, 3·0}
-use Rattle.identities.specs.Unmet.{Lost, lost-mul, lost-div, both, three, far, far-larger, far-quarter, far-below, far-apart, unmet}
+use Rattle.identities.specs.laws.Unmet.{Lost, lost-mul, lost-div, both, three, far, far-larger, far-quarter, far-below, far-apart, unmet}
 use Rattle.rd.specs.Rd.{startOf, stopsOf, nextOf, roundOf, closedOf, rdOf}
 
 -- the mean is infinite or NaN: from an argument, or by overflow

@@ -1,6 +1,6 @@
 -- The remainder by π/2, and what is left of π/2, is at most 4 in size, so that there is an answer for the sine and cosine of a reduced angle; so is |φ| < π/2. Assumes nothing.
 use mathlib.Core.Path.{_≡_, refl, sym, ap, subst}
-use Prim.Native.Nat.{ℕ, suc, _+_, _*_, _%_, _^_, _≤_, _<_}
+use Prim.Native.Nat.{ℕ, suc, _*_, _%_, _^_, _≤_, _<_}
 use native.Mathlib.Nat.{mul-pos, mul-le-mul-right, mod-lt}
 use native.Mathlib.Omega.{arith}
 use mathlib.Core.Bool.{Bool, true, false, cond, _&&_, _||_, true≢false}
@@ -13,7 +13,7 @@ use lib.Ieee.{Float, nan, inf, fin, binary64, up, down, rem, ofBits, le, lt, eq}
 use lib.Ieee.Fits.{down-pos}
 use lib.Ieee.Order.{le-of-values}
 use lib.Ieee.Scale.{finite}
-use Rattle.laws.specs.Arithmetic.{_⊖_, _⊘_, _%%_, _<·_, _≤·_, _=·_, _≠·_, π, π/2, ½, 2·0, 4·0}
+use Rattle.laws.specs.Arithmetic.{_⊖_, _⊘_, _%%_, _<·_, _≤·_, _=·_, _≠·_, π/2, ½, 2·0, 4·0}
 use Rattle.laws.specs.laws.Flags.{lt-or-le}
 use Rattle.laws.specs.laws.Kinds.{not-nan}
 use Rattle.laws.specs.laws.Rounding.{Near}
@@ -21,17 +21,17 @@ use Rattle.whole.specs.Whole.{magnitudeOf, roundOf}
 use Rattle.answer.specs.Answer.{refusalOf}
 use Rattle.angle.specs.Sine.{sineOf}
 use Rattle.angle.specs.Cosine.{cosineOf}
-use Rattle.identities.specs.SineAnswered.{sine-answers, cosine-answers}
+use Rattle.identities.specs.laws.SineAnswered.{sine-answers, cosine-answers}
 use Rattle.incomplete.specs.declared.Fold.{Fold}
 use Rattle.incomplete.specs.Period.{foldedOf}
 use Rattle.whole.specs.laws.Magnitude.{magnitude-fin, magnitude-value, within, at-most-finite, at-most-size}
-use Rattle.identities.specs.Cuts.{U, Small, small-round, left-of, left-small}
+use Rattle.identities.specs.laws.Cuts.{U, InReach, small-round, left-of, left-small}
 
 -- the f64 π is P / 2 ^ 48, π/2 is P / 2 ^ 49
 abbrev pub P : ℕ
 P = 884279719003555
 
-pub small-le : (x : Float) (s : Bool) → Small x s → T (magnitudeOf x ≤· 4·0)
+pub small-le : (x : Float) (s : Bool) → InReach x s → T (magnitudeOf x ≤· 4·0)
 unfolding ofBits
 small-le x s v = le-of-values (magnitudeOf x) 4·0 (v .g) U 4 1 (pow-pos 1074) (lit< tt) (magnitude-value x s (v .g) U (v .value)) (refl, refl) (loose (v .g) U (v .most))
   where
@@ -39,7 +39,7 @@ small-le x s v = le-of-values (magnitudeOf x) 4·0 (v .g) U 4 1 (pow-pos 1074) (
     loose g u h = omega arith
 
 -- ---- remainders by P / 2 ^ (k + 1)
-pub rest-small : (m : ℕ) (e : ℤ) (k : ℕ) → 2 * P ≤ 7 * 2 ^ suc k → Small (rem binary64 (fin false m e) (fin false P (negsuc k))) false
+pub rest-small : (m : ℕ) (e : ℤ) (k : ℕ) → 2 * P ≤ 7 * 2 ^ suc k → InReach (rem binary64 (fin false m e) (fin false P (negsuc k))) false
 unfolding rem
 rest-small m e k h =
     small-round false (m * up e * 2 ^ suc k % (P * 1 * down e)) (down e * 2 ^ suc k) (mul-pos (down-pos e) (pow-pos (suc k)))
@@ -49,7 +49,7 @@ rest-small m e k h =
     go r p c q h l = let m : 2 * p * c ≤ 7 * q * c = mul-le-mul-right c h in omega (arith, m, l)
 
 -- what is left of π/2
-from-half-pi : (y : Float) → Small y false → T (magnitudeOf (π/2 ⊖ y) ≤· 4·0)
+from-half-pi : (y : Float) → InReach y false → T (magnitudeOf (π/2 ⊖ y) ≤· 4·0)
 unfolding ofBits
 from-half-pi y v =
     let l = left-of P (negsuc 48) y (v .g) (v .value) (near (v .g) U (v .most)) in
@@ -67,7 +67,7 @@ folded-small : (m : ℕ) (e : ℤ) → T (magnitudeOf (foldedOf (fin false m e) 
 unfolding foldedOf ofBits
 folded-small m e =
     let rest = fin false m e %% π/2 in
-    let v : Small rest false = rest-small m e 48 (lit≤ tt) in
+    let v : InReach rest false = rest-small m e 48 (lit≤ tt) in
     either (½ <· roundOf ((fin false m e ⊖ rest) ⊘ π/2) %% 2·0) _ _ (from-half-pi rest v) (small-le rest false v)
 
 pub folded-reach : (φ : Float) → T (finite φ) → T (magnitudeOf (foldedOf (magnitudeOf φ) .angle) ≤· 4·0)

@@ -11,7 +11,8 @@ use Rattle.angle.specs.Alternating.{squareOf, alternatingOf, upToFour}
 use Rattle.angle.specs.Sine.{sineAt, sineOf}
 use Rattle.angle.specs.Cosine.{cosineAt, cosineOf}
 use Rattle.carlson.specs.Loop.{iterate, duplicated}
-use Rattle.carlson.specs.Series.{largerOf, rootsOf, fifthOf}
+use Rattle.carlson.specs.Series.{largerOf, fifthOf}
+use Rattle.rf.specs.Rf.{rootsOf}
 use Rattle.rf.specs.Rf as Rf
 use Rattle.rd.specs.Rd as Rd
 use Rattle.incomplete.specs.Period.{foldedOf}

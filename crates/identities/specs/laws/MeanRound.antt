@@ -11,13 +11,13 @@ use lib.Ieee.Exact.{HasValue}
 use lib.Ieee.Scale.{grid, normal-of-fraction}
 use Rattle.laws.specs.Arithmetic.{_⊕_, _⊗_, 2·0}
 use Rattle.laws.specs.laws.Rounding.{grid-near, round-value}
 use Rattle.legendre.specs.Mean.{arithmeticOf, geometricOf}
 use Rattle.laws.specs.laws.Operations.{mul-is, div-is}
 use Rattle.legendre.specs.laws.Beneath.{Rooted, rooted, nearest-hi, nearest-lo}
 use Rattle.laws.specs.laws.Sizes.{units-same, grid-most, below-overflow}
 use Rattle.laws.specs.laws.Bounds.{Within, positive, add-plain, within-add, within-mul}
 use Rattle.legendre.specs.laws.Rounds.{arithmetic-within, geometric-within}
-use Rattle.legendre.specs.laws.Ratios.{Round, rung, next, near-hi, near-lo, cancel}
+use Rattle.identities.specs.laws.Ratios.{Round, rung, next, near-hi, near-lo, cancel}
 
 -- ---- a rounded fraction in the normal range: g units, off by one part in 2 ^ 53
 pub record Rounded (x : Float) (a c : ℕ) : Type 0 where

@@ -5,18 +5,11 @@ use mathlib.Core.Bool.{Bool, true, false, not, cond}
 use lib.Ieee.{Float, nan, inf, fin, neg, isNan}
 use Rattle.laws.specs.Arithmetic.{_≠·_, 1·0}
 use Rattle.laws.specs.laws.Kinds.{differs-is}
-use Rattle.identities.specs.Signs.{neg-neg}
+use Rattle.identities.specs.laws.Signs.{neg-neg}
 use Rattle.answer.specs.declared.Answer.{Answer}
-use Rattle.answer.specs.declared.Answer.the-variants.{One, Pair, Infinite, Refused}
 use Rattle.answer.specs.declared.Counted.{Counted}
 use Rattle.answer.specs.Settle.{handedOf}
-
--- the answer for -φ; refusals alike
-unfoldable pub turnOf : Answer → Answer
-turnOf (One x) = One (neg x)
-turnOf (Pair x y) = Pair (neg x) (neg y)
-turnOf (Infinite s) = Infinite (not s)
-turnOf (Refused n) = Refused n
+use Rattle.identities.specs.Turned.{turnOf}
 
 pub same-kind : (φ : Float) → (neg φ ≠· neg φ) ≡ (φ ≠· φ)
 unfolding neg isNan
@@ -30,10 +23,6 @@ same-kind φ = differs-is (neg φ) ∙ kind φ ∙ sym (differs-is φ)
 pub one-turned : (b : Bool) → cond (not b) (neg 1·0) 1·0 ≡ neg (cond b (neg 1·0) 1·0)
 one-turned true = sym (neg-neg 1·0)
 one-turned false = refl
-
--- after as many rounds
-abbrev pub turnedOf : Counted → Counted
-turnedOf c = record { answer = turnOf (c .answer); rounds = c .rounds }
 
 pub after : (n : ℕ) {a b : Answer} → a ≡ b → _≡_ {A = Counted} (record { answer = a; rounds = n }) (record { answer = b; rounds = n })
 after n e = ap (λ (a : Answer). record { answer = a; rounds = n }) e

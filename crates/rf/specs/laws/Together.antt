@@ -4,10 +4,10 @@ use mathlib.Core.Bool.{Bool, true, false, _||_, true≢false}
 use Prim.Native.Nat.{ℕ, _<_, _+_}
 use lib.Ieee.{Float}
 use Rattle.laws.specs.Arithmetic.{_⊕_, _⊘_, 4·0}
 use Rattle.carlson.specs.Loop.{duplicated}
-use Rattle.carlson.specs.Series.{spreadOf}
+use Rattle.rf.specs.Rf.{spreadOf}
 use Rattle.carlson.specs.declared.Outcome.{Outcome}
 use Rattle.carlson.specs.laws.Duplication.{Holds, at-next}
 
 pub record Arguments : Type 0 where
   pub x : Float

@@ -53,12 +53,12 @@ cut s a c d B C e h o =
     more d = omega arith
 
 -- ---- a fraction of at most 7 / 2 rounds to at most 4
-pub record Small (x : Float) (s : Bool) : Type 0 where
+pub record InReach (x : Float) (s : Bool) : Type 0 where
   pub g : ℕ
   pub value : HasValue x s g U
   pub most : g ≤ 4 * U
 
-pub small-round : (s : Bool) (a c : ℕ) → 0 < c → 2 * a ≤ 7 * c → Small (round binary64 s a c) s
+pub small-round : (s : Bool) (a c : ℕ) → 0 < c → 2 * a ≤ 7 * c → InReach (round binary64 s a c) s
 small-round s a c C h =
     let t = cut s a c 1023 (4 * U) C refl (below a c U C (pow-pos 1074) h) (lit< tt) in
     record { g = t .g; value = t .value; most = stays (t .g) a c U (2 ^ 1023) C (lit≤ tt) h (t .near .0) }
@@ -122,8 +122,8 @@ left-of m e (fin false k d) h v n = go (ltb A B)
     go true = record { s = true; a = B - A; c = C; is = refl; some = mul-pos (down-pos e) (down-pos d); most = over A B C (N .0) }
     go false = record { s = false; a = A - B; c = C; is = refl; some = mul-pos (down-pos e) (down-pos d); most = over B A C (N .1) }
 
-pub left-small : (x : Float) (l : Left x) → Small x (l .s)
-left-small x l = subst (λ (x : Float). Small x (l .s)) (sym (l .is)) (small-round (l .s) (l .a) (l .c) (l .some) (wider (l .a) (l .c) (l .most)))
+pub left-small : (x : Float) (l : Left x) → InReach x (l .s)
+left-small x l = subst (λ (x : Float). InReach x (l .s)) (sym (l .is)) (small-round (l .s) (l .a) (l .c) (l .some) (wider (l .a) (l .c) (l .most)))
   where
     wider : (a c : ℕ) → 2 * a ≤ 5 * c → 2 * a ≤ 7 * c
     wider a c h = omega arith

@@ -6,19 +6,12 @@ use lib.Dec.{ltb}
 use lib.Ieee.{Float, nan, inf, fin, binary64, up, down, unlike, round, neg, ofBits}
 use Rattle.laws.specs.Arithmetic.{+0, float}
 use Rattle.laws.specs.laws.Exact.{round-neg}
-use Rattle.answer.specs.declared.Answer.{Answer}
-use Rattle.answer.specs.declared.Answer.the-variants.{One, Pair, Infinite, Refused}
+use Rattle.answer.specs.declared.Answer.the-variants.{One, Refused}
 use Rattle.bounds.specs.Close.{distanceOf}
 use Rattle.angle.specs.Alternating.{squareOf, alternatingOf, upToFour}
 use Rattle.angle.specs.Sine.{sineAt, sineOf}
 use Rattle.angle.specs.Cosine.{cosineAt, cosineOf}
-
--- the answer with its sign turned; a refusal stays
-unfoldable pub negated : Answer → Answer
-negated (One v) = One (neg v)
-negated (Pair v w) = Pair (neg v) (neg w)
-negated (Infinite s) = Infinite (not s)
-negated (Refused n) = Refused n
+use Rattle.identities.specs.Turned.{turnOf}
 
 turned : (s b : Bool) → unlike (not s) b ≡ not (unlike s b)
 turned true true = refl
@@ -33,13 +26,13 @@ sine-turned s p q =
     ap (λ (t : Bool). round binary64 t (p * distanceOf (b .added) (b .taken)) (q * 2 ^ 60)) (turned s (ltb (b .added) (b .taken)))
     ∙ round-neg binary64 (unlike s (ltb (b .added) (b .taken))) (p * distanceOf (b .added) (b .taken)) (q * 2 ^ 60)
 
-pub sine-odd : (x : Float) → sineOf (neg x) ≡ negated (sineOf x)
-unfolding sineOf upToFour neg negated
+pub sine-odd : (x : Float) → sineOf (neg x) ≡ turnOf (sineOf x)
+unfolding sineOf upToFour neg turnOf
 sine-odd nan = refl
 sine-odd (inf s) = refl
 sine-odd (fin s m e) = go (ltb (4 * down e) (m * up e))
   where
-    go : (b : Bool) → cond b (Refused 12) (One (sineAt (not s) (m * up e) (down e))) ≡ negated (cond b (Refused 12) (One (sineAt s (m * up e) (down e))))
+    go : (b : Bool) → cond b (Refused 12) (One (sineAt (not s) (m * up e) (down e))) ≡ turnOf (cond b (Refused 12) (One (sineAt s (m * up e) (down e))))
     go true = refl
     go false = ap One (sine-turned s (m * up e) (down e))
 

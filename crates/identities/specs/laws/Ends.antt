@@ -14,19 +14,18 @@ use Rattle.laws.specs.Arithmetic.{_⊖_, _⊗_, _⊘_, _≤·_, dec, 1·0}
 use Rattle.laws.specs.laws.Flags.{fails}
 use Rattle.root.specs.Root.{rootOf}
 use Rattle.answer.specs.declared.Answer.the-variants.{One}
-use Rattle.legendre.specs.declared.e.Sums.{Sums}
 use Rattle.legendre.specs.Domain.{belowOneOf}
 use Rattle.legendre.specs.Mean.{arithmeticOf, geometricOf, goesOnOf, iterate, iterated}
 use Rattle.pieces.specs.Piece.{pieceOf, centreOf, ePieceOf}
 use Rattle.legendre.specs.Ellipe.{√ε, eTolerance, startOf, nextOf, goesOn, lastSumsOf, nearOneOf, eFromOf, eMeanOf, eBelowOneOf, eNegativeOf, ellipeWithin, ellipeOf}
 use Rattle.legendre.specs.laws.Places.{Negative, Unit, Place, refused-1, refused-2, one, lowest, negative, unit, place}
 use Rattle.laws.specs.laws.Sizes.{units-lt}
 use Rattle.laws.specs.laws.Bounds.{Within, looser}
 use Rattle.legendre.specs.laws.Rounds as rounds
 use Rattle.legendre.specs.laws.Starts.{unit-start, inverse-within, m1-unit}
-use Rattle.legendre.specs.laws.Ratios.{rung}
-use Rattle.legendre.specs.laws.MeanRound.{State, step}
-use Rattle.legendre.specs.laws.StopTest.{near, stops}
+use Rattle.identities.specs.laws.Ratios.{rung}
+use Rattle.identities.specs.laws.MeanRound.{State, step}
+use Rattle.identities.specs.laws.StopTest.{near, stops}
 
 -- the test fails within n rounds from x and y
 unfoldable pub endsIn : ℕ → Float → Float → Bool
@@ -91,31 +90,38 @@ ends-in-8 y0 w = ends ladder 1·0 y0 1 67108863 ladder-holds (start y0 w)
         }
 
 -- ---- the run of the sums
-same : (n : ℕ) (s : Sums) → endsIn n (nextOf s .x) (nextOf s .y) ≡ endsIn n (arithmeticOf (s .x) (s .y)) (geometricOf (s .x) (s .y))
-unfolding nextOf
-same n s = refl
+-- a loop whose test fails within n rounds makes no more, whatever its bound
+unfoldable stopsIn : {S : Type 0} → (S → Bool) → (S → S) → ℕ → S → Bool
+stopsIn goes round zero s = not (goes s)
+stopsIn goes round (suc n) s = not (goes s) || stopsIn goes round n (round s)
 
-more : (n k : ℕ) (s : Sums) → T (endsIn n (s .x) (s .y)) → iterated (goesOn eTolerance) nextOf (n + k) s ≡ iterated (goesOn eTolerance) nextOf n s
-unfolding endsIn iterate goesOn
-more zero k s h = ap (λ (j : ℕ). iterated (goesOn eTolerance) nextOf j s) (zero-add k) ∙ go k (goesOn eTolerance s) h
+more : {S : Type 0} (goes : S → Bool) (round : S → S) (n k : ℕ) (s : S) → T (stopsIn goes round n s) → iterated goes round (n + k) s ≡ iterated goes round n s
+unfolding stopsIn iterate
+more goes round zero k s h = ap (λ (j : ℕ). iterated goes round j s) (zero-add k) ∙ go k (goes s) h
   where
-    go : (k : ℕ) (b : Bool) → T (not b) → iterate (goesOn eTolerance) nextOf k b s ≡ s
+    go : (k : ℕ) (b : Bool) → T (not b) → iterate goes round k b s ≡ s
     go zero b t = refl
     go (suc k) true t = absurd t
     go (suc k) false t = refl
-more (suc n) k s h = ap (λ (j : ℕ). iterated (goesOn eTolerance) nextOf j s) (suc-add n k) ∙ go (more n k (nextOf s)) (goesOn eTolerance s) h
+more goes round (suc n) k s h = ap (λ (j : ℕ). iterated goes round j s) (suc-add n k) ∙ go (more goes round n k (round s)) (goes s) h
   where
-    go : (T (endsIn n (nextOf s .x) (nextOf s .y)) → iterated (goesOn eTolerance) nextOf (n + k) (nextOf s) ≡ iterated (goesOn eTolerance) nextOf n (nextOf s)) → (b : Bool) → T (not b || endsIn n (arithmeticOf (s .x) (s .y)) (geometricOf (s .x) (s .y)))
-        → iterate (goesOn eTolerance) nextOf (suc (n + k)) b s ≡ iterate (goesOn eTolerance) nextOf (suc n) b s
+    go : (T (stopsIn goes round n (round s)) → iterated goes round (n + k) (round s) ≡ iterated goes round n (round s)) → (b : Bool) → T (not b || stopsIn goes round n (round s))
+        → iterate goes round (suc (n + k)) b s ≡ iterate goes round (suc n) b s
     go ih false t = refl
-    go ih true t = ih (subst T (sym (same n s)) t)
+    go ih true t = ih t
+
+-- the sums' test reads their two means alone
+by-means : (n : ℕ) (s : _) → stopsIn (goesOn eTolerance) nextOf n s ≡ endsIn n (s .x) (s .y)
+unfolding stopsIn endsIn goesOn
+by-means zero s = refl
+by-means (suc n) s = ap (λ (b : Bool). not (goesOn eTolerance s) || b) (by-means n (nextOf s) ∙ (unfold nextOf in refl))
 
 enough : (n : ℕ) → 8 ≤ n → n ≡ 8 + (n - 8)
 enough n h = omega arith
 
 sums-same : (n : ℕ) (y0 : Float) → 8 ≤ n → Within 1048 1074 y0 → lastSumsOf n eTolerance y0 ≡ lastSumsOf 8 eTolerance y0
 unfolding lastSumsOf
-sums-same n y0 h w = ap (λ (j : ℕ). iterated (goesOn eTolerance) nextOf j (startOf y0)) (enough n h) ∙ more 8 (n - 8) (startOf y0) (subst T (sym (first y0)) (ends-in-8 y0 w))
+sums-same n y0 h w = ap (λ (j : ℕ). iterated (goesOn eTolerance) nextOf j (startOf y0)) (enough n h) ∙ more (goesOn eTolerance) nextOf 8 (n - 8) (startOf y0) (subst T (sym (by-means 8 (startOf y0) ∙ first y0)) (ends-in-8 y0 w))
   where
     first : (y0 : Float) → endsIn 8 (startOf y0 .x) (startOf y0 .y) ≡ endsIn 8 1·0 y0
     first y0 = unfold startOf in refl

@@ -7,7 +7,7 @@ use lib.Ieee.{Float, ofBits}
 use lib.Ieee.Scale.{finite}
 use Rattle.laws.specs.Arithmetic.{_⊕_, _⊗_, 2·0}
 use Rattle.carlson.specs.Loop.{iterate}
-use Rattle.identities.specs.Unmet.{Lost, lost-add, lost-mul, lost-div, both, three, far, far-larger, far-quarter, far-below, far-apart, unmet, unmet-from}
+use Rattle.identities.specs.laws.Unmet.{Lost, lost-add, lost-mul, lost-div, both, three, far, far-larger, far-quarter, far-below, far-apart, unmet, unmet-from}
 use Rattle.rj.specs.Rj.{startOf, stopsOf, nextOf, roundOf, closedOf, rjOf}
 use Rattle.rj.specs.declared.State.{State}
 

@@ -1,8 +1,8 @@
 -- The body is the definition, each call replaced by what it ensures.
-use Rattle.carlson.specs.Series.{rootsOf}
+use Rattle.rf.specs.Rf.{rootsOf}
 use borrow.Author.Needs.{needs}
-use Rattle.carlson.proofs.roots_of.Statement.{statement}
-use Rattle.carlson.proofs.roots_of.Tie as tie
+use Rattle.rf.proofs.roots_of.Statement.{statement}
+use Rattle.rf.proofs.roots_of.Tie as tie
 
 returns : tie.Need-returns
 unfolding rootsOf

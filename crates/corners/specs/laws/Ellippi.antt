@@ -8,7 +8,8 @@ use Rattle.answer.specs.Settle.{settledOf}
 use Rattle.root.specs.Root.{rootOf}
 use Rattle.whole.specs.Whole.{magnitudeOf}
 use Rattle.carlson.specs.Loop.{iterate, duplicated}
-use Rattle.carlson.specs.Series.{largerOf, rootsOf, fifthOf, trustedOf}
+use Rattle.carlson.specs.Series.{largerOf, fifthOf, trustedOf}
+use Rattle.rf.specs.Rf.{rootsOf}
 use Rattle.rc.specs.Rc as Rc
 use Rattle.rj.specs.Rj as Rj
 use Rattle.ellippi.specs.Ellippi.{weightOf, bothBelowOf, armsOf, countedOf, ellippiOf}

@@ -1,20 +1,18 @@
 -- The invariant: the first limbs are those of the difference, but for what they borrowed.
-use mathlib.Core.Path.{_≡_}
 use Prim.Native.Nat.{_-_, _≤_}
 use native.Mathlib.Omega.{arith}
-use lib.ListN.{length}
-use Rattle.difference.proofs.Borrowing.{Less, less-none, less-next, less-all}
-use Rattle.difference.proofs.limbs.less.Statement.{statement}
-use Rattle.difference.proofs.limbs.less.Tie as tie
+use Rattle.difference.proofs.Borrowing.{Minus, minus-none, minus-next, minus-all}
+use Rattle.difference.proofs.limbs.minus.Statement.{statement}
+use Rattle.difference.proofs.limbs.minus.Tie as tie
 
 abbrev Inv-loop : tie.InvT-loop
-Inv-loop a b out₀ borrow₀ i₀ out borrow i = (i ≤ 34) × Less a b out borrow i
+Inv-loop a b out₀ borrow₀ i₀ out borrow i = (i ≤ 34) × Minus a b out borrow i
 
 abbrev μ-loop : tie.MeasureT-loop
 μ-loop a b out₀ borrow₀ i₀ out borrow i = 34 - i
 
 loop-holds : tie.Need-loop-holds Inv-loop μ-loop
-loop-holds c = (omega arith, less-none _ _ (c .good .0 .1 .0 .1))
+loop-holds c = (omega arith, minus-none _ _ (c .good .0 .1 .0 .1))
 
 mul-step : tie.Need-mul-step Inv-loop μ-loop
 mul-step c = omega arith
@@ -48,16 +46,16 @@ loop-again c =
     let a = c .before .before .before in
     let l = c .before .before .loop in
     let e = c .step .ensures in
-    (omega (arith, c .before .loop-test .taken), less-next _ _ (l .out) (l .borrow) (l .i) _ _ (a .good .0 .1 .0 .1) (a .good .1 .0 .1 .0 .1) (c .before .loop-test .taken) (l .inv .1) (e .0) (e .1) (e .2))
+    (omega (arith, c .before .loop-test .taken), minus-next _ _ (l .out) (l .borrow) (l .i) _ _ (a .good .0 .1 .0 .1) (a .good .1 .0 .1 .0 .1) (c .before .loop-test .taken) (l .inv .1) (e .0) (e .1) (e .2))
 
 returns : tie.Need-returns Inv-loop μ-loop
 returns c =
     let a = c .before .before in
     let l = c .before .loop in
-    less-all _ _ (l .out) (l .borrow) (l .i) (a .good .0 .1 .0 .1) (a .good .1 .0 .1 .0 .1) (omega (arith, c .loop-test .left, l .inv .0)) (l .inv .1)
+    minus-all _ _ (l .out) (l .borrow) (l .i) (a .good .0 .1 .0 .1) (a .good .1 .0 .1 .0 .1) (omega (arith, c .loop-test .left, l .inv .0)) (l .inv .1)
 
-pub less-spec : {M : Type 1} → statement M
-less-spec =
+pub minus-spec : {M : Type 1} → statement M
+minus-spec =
     tie.close
     (tie.spec
     Inv-loop

@@ -11,9 +11,9 @@ use Rattle.answer.specs.Numbers.{last}
 use Rattle.answer.specs.declared.Counted.{Counted}
 use Rattle.answer.specs.laws.Fair.{rung}
 use Rattle.answer.specs.laws.Rounds.{asked, failed}
-use Rattle.counted.specs.Ellippi.{ellippi-few}
-use Rattle.counted.specs.Ellipeinc.{ellipeinc-few}
-use Rattle.counted.specs.Ellipf.{ellipf-few}
+use Rattle.counted.specs.laws.Ellippi.{ellippi-few}
+use Rattle.counted.specs.laws.Ellipeinc.{ellipeinc-few}
+use Rattle.counted.specs.laws.Ellipf.{ellipf-few}
 use Rattle.sheet.specs.Functions.{countedOf}
 use Rattle.sheet.specs.laws.Evaluated.{counted-beyond}
 

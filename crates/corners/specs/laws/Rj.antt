@@ -6,7 +6,8 @@ use Rattle.laws.specs.Arithmetic.{float, +0, 1·0, 2·0, 3·0, 4·0, 5·0}
 use Rattle.root.specs.Root.{rootOf}
 use Rattle.whole.specs.Whole.{magnitudeOf}
 use Rattle.carlson.specs.Loop.{iterate, duplicated}
-use Rattle.carlson.specs.Series.{largerOf, rootsOf, fifthOf, trustedOf}
+use Rattle.carlson.specs.Series.{largerOf, fifthOf, trustedOf}
+use Rattle.rf.specs.Rf.{rootsOf}
 use Rattle.rc.specs.Rc as Rc
 use Rattle.rj.specs.Rj.{startOf, stopsOf, nextOf, roundOf, closedOf, seriesOf, rjOf}
 

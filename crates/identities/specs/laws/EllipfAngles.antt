@@ -1,6 +1,6 @@
 -- Where m ≥ 1 ellipf asks for sine before the reduction, of |φ| < π/2: at most 4 in size, so refusal 12 can't arise. Assumes nothing.
 use mathlib.Core.Path.{_≡_, sym, subst}
-use Prim.Native.Nat.{_≤_, _<_}
+use Prim.Native.Nat.{_≤_}
 use mathlib.Core.Bool.{false}
 use lib.Dec.{T}
 use lib.Ieee.{Float, fin}
@@ -8,7 +8,7 @@ use lib.Ieee.Scale.{finite}
 use Rattle.laws.specs.Arithmetic.{_≤·_, _≠·_, π/2, 4·0}
 use Rattle.whole.specs.Whole.{magnitudeOf}
 use Rattle.whole.specs.laws.Magnitude.{magnitude-fin}
-use Rattle.identities.specs.Angles.{quarter-small, quarter-finite}
+use Rattle.identities.specs.laws.Angles.{quarter-small, quarter-finite}
 
 -- sine is asked before the reduction
 pub before-reduction : (φ : Float) → (φ ≠· φ) ≡ false → (π/2 ≤· magnitudeOf φ) ≡ false → T (magnitudeOf φ ≤· 4·0)

@@ -18,11 +18,11 @@ use Rattle.laws.specs.laws.Rounding.{Near}
 use Rattle.whole.specs.Whole.{magnitudeOf, halfUp}
 use Rattle.whole.specs.laws.Meaning.{half-is, round-fraction}
 use Rattle.incomplete.specs.Period.{far-out}
-use Rattle.identities.specs.Angles.{P, small-le}
+use Rattle.identities.specs.laws.Angles.{P, small-le}
 use Rattle.ellipeinc.specs.Ellipeinc.{halfTurns, lineRest}
 use Rattle.whole.specs.laws.Magnitude.{magnitude-fin, within, within-size}
 use Rattle.laws.specs.laws.Operations.{mul-is}
-use Rattle.identities.specs.Cuts.{U, Cut, cut, left-of, left-small}
+use Rattle.identities.specs.laws.Cuts.{U, Cut, cut, left-of, left-small}
 
 -- the f64 π is P / Q
 abbrev Q : ℕ

@@ -4,7 +4,6 @@ use mathlib.Core.Bool.{Bool, true, false, not, cond, _&&_, _||_, true≢false}
 use Prim.Native.Nat.{ℕ, _≤_, _<_, _+_, _*_}
 use native.Mathlib.Omega.{arith}
 use borrow.Author.Tests.{le-ltb, eqb-true}
-use lib.IntN.{ℤ}
 use lib.Dec.{eqb}
 use lib.Ieee.{Float, nan, inf, fin, up, down, below, lt, eq, ne, ofBits}
 use Rattle.laws.specs.Arithmetic.{_⊖_, _⊘_, _<·_, _=·_, _≠·_, +0, -∞, 1·0}

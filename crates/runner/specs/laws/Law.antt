@@ -1,6 +1,6 @@
 -- THE PROGRAM'S LAW. Whatever the input, however the reads cut it into parts, and whether a run begins with no sheet or with one: what it comes to is `ranOf` of the
 -- whole input (Run.antt), which is 01's "The program reads standard input". `startOf`, `fixingOf`, `feedOf`, `finishOf` and `endedOf` are the definitions that the
--- contracts of the calls `start`, `fixing`, `feed`, `finish` and of `outcome` cite, so this speaks of what the code does between a read and a write. What is printed, and
+-- contracts of the calls `start`, `fixing`, `feed`, `finish` and of those of `ending` cite, so this speaks of what the code does between a read and a write. What is printed, and
 -- what is saved, follow from what a run comes to. Assumes nothing.
 use mathlib.Core.Path.{_≡_, refl, ap, _∙_}
 use Prim.Native.Nat.{ℕ, _+_, _^_, _<_}

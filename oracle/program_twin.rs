@@ -2,5 +2,5 @@
 //! twin: runner
 
 fn main() {
-    twin::runner::run(b"legsheet", 0, 1);
+    twin::runner::run(b"legsheet", 0, 1, false, b"");
 }

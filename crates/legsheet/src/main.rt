@@ -6,13 +6,13 @@ use libc::STDOUT_FILENO;
 fn to_file() {
     let mut name = [0u8; WORD];
     let n = files::word(1, &mut name);
-    runner::run_to(b"legsheet", STDIN_FILENO, STDOUT_FILENO, &name[0..n]);
+    runner::run(b"legsheet", STDIN_FILENO, STDOUT_FILENO, true, &name[0..n]);
 }
 
 fn main() {
     let words = files::word_count();
     if words == 1 {
-        runner::run(b"legsheet", STDIN_FILENO, STDOUT_FILENO);
+        runner::run(b"legsheet", STDIN_FILENO, STDOUT_FILENO, false, b"");
         return;
     }
     if words == 2 {

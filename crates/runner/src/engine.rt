@@ -3,7 +3,6 @@ use super::lines::between;
 use super::lines::take_line;
 use ending::State;
 use line::LONGEST;
-use page::LARGEST;
 ghost use mathlib.Core.Path.{_≡_};
 ghost use Prim.Native.Nat.{_≤_};
 ghost use lib.ListN.{length};
@@ -79,7 +78,8 @@ fn step(st: State, b: u8, line: &mut [u8], sheet: &mut [u8]) -> State
     longer(st)
 }
 
-fn steps(st: State, part: &[u8], line: &mut [u8], sheet: &mut [u8]) -> State
+// A part of the input.
+pub(crate) fn feed(st: State, part: &[u8], line: &mut [u8], sheet: &mut [u8]) -> State
     requires { ⌜ (length (now line) ≡ longest) × (length (now sheet) ≡ largest) ⌝ }
     ensures { λ r. ⌜ room r (now (line .exit)) (now (sheet .exit)) ≡ feedOf (room st (now (line .entry)) (now (sheet .entry))) (now (part .entry)) ⌝ }
 {
@@ -92,7 +92,8 @@ fn steps(st: State, part: &[u8], line: &mut [u8], sheet: &mut [u8]) -> State
     now
 }
 
-fn last(st: State, line: &[u8], sheet: &mut [u8]) -> State
+// The end of the input.
+pub(crate) fn finish(st: State, line: &[u8], sheet: &mut [u8]) -> State
     requires { ⌜ (length (now line) ≡ longest) × (length (now sheet) ≡ largest) ⌝ }
     ensures { λ r. ⌜ room r (now (line .entry)) (now (sheet .exit)) ≡ finishOf (room st (now (line .entry)) (now (sheet .entry))) ⌝ }
 {
@@ -103,23 +104,4 @@ fn last(st: State, line: &[u8], sheet: &mut [u8]) -> State
         return st;
     }
     end_line(st, line, sheet)
-}
-
-// A part of the input.
-pub(crate) fn feed(
-    st: State,
-    part: &[u8],
-    line: &mut [u8; LONGEST],
-    sheet: &mut [u8; LARGEST],
-) -> State
-    ensures { λ r. ⌜ room r (now (line .exit)) (now (sheet .exit)) ≡ feedOf (room st (now (line .entry)) (now (sheet .entry))) (now (part .entry)) ⌝ }
-{
-    steps(st, part, line, sheet)
-}
-
-// The end of the input.
-pub(crate) fn finish(st: State, line: &mut [u8; LONGEST], sheet: &mut [u8; LARGEST]) -> State
-    ensures { λ r. ⌜ room r (now (line .exit)) (now (sheet .exit)) ≡ finishOf (room st (now (line .entry)) (now (sheet .entry))) ⌝ }
-{
-    last(st, line, sheet)
 }

@@ -14,8 +14,7 @@ use page::LARGEST;
 pub use reading::Turn;
 pub use reading::take_all;
 ghost use mathlib.Core.Path.{_≡_};
-ghost use mathlib.Core.Bool.{true, false};
-ghost use mathlib.Core.List.{[]};
+ghost use mathlib.Core.Bool.{true};
 ghost use Rattle.ledger.specs.Calls.{isSheet};
 ghost use Rattle.page.specs.Page.{pageOf};
 ghost use Rattle.ending.specs.Outcome.{Start, Sheet};
@@ -43,29 +42,15 @@ fn run_from(
     ending::tell_cut(program, out);
 }
 
-// A run from no sheet.
-fn run_new(program: &[u8], input: i32, output: i32, filed: bool, name: &[u8])
+// A run from no sheet, from one descriptor to another; where it is filed, the sheet is then in the file of this name.
+pub fn run(program: &[u8], input: i32, output: i32, filed: bool, name: &[u8])
     ensures { λ _. ⌜ Done input output pageOf filed (now (name .entry)) Start ⌝ }
 {
     let mut sheet = [0u8; LARGEST];
     run_from(program, input, output, filed, name, start(), &mut sheet);
 }
 
-// One run, from one descriptor to another.
-pub fn run(program: &[u8], input: i32, output: i32)
-    ensures { λ _. ⌜ Done input output pageOf false [] Start ⌝ }
-{
-    run_new(program, input, output, false, &program[0..0]);
-}
-
-// The same, and the sheet is then in the file of this name.
-pub fn run_to(program: &[u8], input: i32, output: i32, name: &[u8])
-    ensures { λ _. ⌜ Done input output pageOf true (now (name .entry)) Start ⌝ }
-{
-    run_new(program, input, output, true, name);
-}
-
-// The same from the sheet in these bytes. False: they are no sheet, and nothing was read or written.
+// A filed run from the sheet in these bytes. False: they are no sheet, and nothing was read or written.
 pub fn run_on(program: &[u8], input: i32, output: i32, name: &[u8], bytes: &[u8]) -> bool
     ensures { λ r. ⌜ r ≡ isSheet (now (bytes .entry)) ⌝ }
     ensures { λ r. ⌜ (r ≡ true → Done input output pageOf true (now (name .entry)) (Sheet (now (bytes .entry)))) ⌝ }

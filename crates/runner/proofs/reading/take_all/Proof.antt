@@ -21,10 +21,10 @@ finish-requires c κs = search needs
 
 returns-2 : tie.Need-returns-2
 returns-2 c =
-    let s = c .before .before .before .before .before .before .before in
-    let all = c .before .before .before .before .read-all in
+    let s = c .before .before .before .before .before .before .before .before in
+    let all = c .before .before .before .before .before .read-all in
     let input = toZ-ofZ w32 (s .args .input) (s .fits .input) in
-    took-all (all .result .failed) (c .before .before .before .if1 .left) (rw input at (all .ensures)) (c .finish .result) (c .finish .last .1 .0) (c .finish .last .1 .1 .0) (c .finish .ensures)
+    took-all (all .result .failed) (c .before .before .before .before .if1 .left) (rw input at (all .ensures)) (c .finish .result) _ _ (c .finish .ensures)
 
 pub take-all-spec : {M : Type 1} → statement M
 take-all-spec = tie.close (tie.spec read-all-requires returns finish-requires returns-2)

@@ -6,8 +6,8 @@ use lib.ListN.{length, drop}
 use Rattle.page.specs.Page.{largest}
 use Rattle.runner.specs.Machine.{longest, Room, room, feedOf}
 use Rattle.runner.specs.laws.Steps.{feed-next, feed-end}
-use Rattle.runner.proofs.engine.steps.Statement.{statement}
-use Rattle.runner.proofs.engine.steps.Tie as tie
+use Rattle.runner.proofs.engine.feed.Statement.{statement}
+use Rattle.runner.proofs.engine.feed.Tie as tie
 
 abbrev Inv-loop : tie.InvT-loop
 Inv-loop part line₀ sheet₀ now₀ i₀ line sheet now i =
@@ -56,8 +56,8 @@ returns c =
     let l = c .before .loop in
     sym (feed-end (room (l .now) (l .line) (l .sheet)) (c .before .before .before .before .before .args .part .now) (l .i) (c .loop-test .left)) ∙ l .inv .0
 
-pub steps-spec : {M : Type 1} → statement M
-steps-spec =
+pub feed-spec : {M : Type 1} → statement M
+feed-spec =
     tie.close
     (tie.spec
     Inv-loop

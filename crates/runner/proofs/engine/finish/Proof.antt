@@ -4,8 +4,8 @@ use borrow.Author.Needs.{needs}
 use Rattle.laws.specs.Ladder.{held, passed}
 use Rattle.runner.specs.Machine.{finishOf}
 use Rattle.runner.specs.laws.Steps.{step-idle, step-end}
-use Rattle.runner.proofs.engine.last.Statement.{statement}
-use Rattle.runner.proofs.engine.last.Tie as tie
+use Rattle.runner.proofs.engine.finish.Statement.{statement}
+use Rattle.runner.proofs.engine.finish.Tie as tie
 
 returns : tie.Need-returns
 unfolding finishOf
@@ -30,5 +30,5 @@ returns-3 c =
     passed _ _ (c .before .before .before .before .before .if1 .left)
     (c .before .before .end-line .ensures ∙ step-end (a .st) (a .line .now) (a .sheet .now) 10 (c .before .before .before .before .if2 .left) refl)
 
-pub last-spec : {M : Type 1} → statement M
-last-spec = tie.close (tie.spec returns returns-2 end-line-requires same-length returns-3)
+pub finish-spec : {M : Type 1} → statement M
+finish-spec = tie.close (tie.spec returns returns-2 end-line-requires same-length returns-3)

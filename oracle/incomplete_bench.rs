@@ -44,7 +44,7 @@ fn evaluate(function: u8, a: f64, b: f64) -> f64 {
 fn rounds(phi: f64, m: f64) -> (usize, usize) {
     let (s, c) = phi.sin_cos();
     let (c, c1) = (1.0 / (s * s), c * c / (s * s));
-    (twin::rf::rf(c1, c - m, c).rounds, twin::rd::rd(c1, c - m, c).rounds)
+    (twin::rf::rf(c1, c - m, c).rounds, twin::rd::with_rf(c1, c - m, c).second.rounds)
 }
 
 fn main() {
@@ -54,10 +54,10 @@ fn main() {
     let pi: Vec<(f64, f64)> = (0..4000).map(|_| (between(-10.0, 0.9), between(0.01, 0.9))).collect();
     let e: Vec<(f64, f64)> = (0..4000).map(|_| (between(0.01, 1.57), between(0.01, 0.9))).collect();
     let legs: Vec<(f64, f64)> = (0..4000).map(|_| (between(0.01, 1.57), WGS84)).collect();
-    let ellipeinc: Call = |a, b| value(twin::ellipeinc::ellipeinc(Amplitude(a), Parameter(b)));
-    contest("ellippi, n from -10 to 0.9, m from 0.01 to 0.9", &pi, |a, b| evaluate(4, a, b), |a, b| value(twin::ellippi::ellippi(Characteristic(a), Parameter(b))), Some(|a, b| boost_ellippi(a, b)));
+    let ellipeinc: Call = |a, b| value(twin::ellipeinc::ellipeinc(Amplitude(a), Parameter(b)).answer);
+    contest("ellippi, n from -10 to 0.9, m from 0.01 to 0.9", &pi, |a, b| evaluate(4, a, b), |a, b| value(twin::ellippi::ellippi(Characteristic(a), Parameter(b)).answer), Some(|a, b| boost_ellippi(a, b)));
     contest("ellipeinc, φ from 0.01 to 1.57, m from 0.01 to 0.9", &e, |a, b| evaluate(5, a, b), ellipeinc, Some(|a, b| boost_ellipeinc(a, b)));
-    contest("ellipf, φ from 0.01 to 1.57, m from 0.01 to 0.9", &e, |a, b| evaluate(6, a, b), |a, b| value(twin::ellipf::ellipf(Amplitude(a), Parameter(b))), Some(|a, b| boost_ellipf(a, b)));
+    contest("ellipf, φ from 0.01 to 1.57, m from 0.01 to 0.9", &e, |a, b| evaluate(6, a, b), |a, b| value(twin::ellipf::ellipf(Amplitude(a), Parameter(b)).answer), Some(|a, b| boost_ellipf(a, b)));
     contest("ellipeinc, legs (m = -e'²)", &legs, |a, b| evaluate(5, a, b), ellipeinc, None);
     let all: Vec<(usize, usize)> = legs.iter().map(|&(a, b)| rounds(a, b)).collect();
     let spread = |name: &str, each: &dyn Fn(&(usize, usize)) -> usize| {

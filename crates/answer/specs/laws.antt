@@ -1,5 +1,4 @@
--- Of answers: sound ones, the tests that settle them, which a function may give, those of an odd function, and their rounds.
+-- Of answers: sound ones, the tests that settle them, which a function may give, those of an odd function.
 pub mod Sound
 pub mod Tests
 pub mod Fair
-pub mod Rounds

@@ -1,4 +1,5 @@
--- Each function's, then every function's, by its number.
+-- Rounds down a list of tests (Asked); each function's, then every function's, by its number.
+pub mod Asked
 pub mod Ellippi
 pub mod Ellipeinc
 pub mod Ellipf

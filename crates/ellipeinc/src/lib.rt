@@ -23,7 +23,7 @@ use legendre::complete_e;
 use rd::with_rf;
 ghost use Prim.Native.Nat.{_≤_};
 ghost use mathlib.Core.Path.{_≡_};
-ghost use Rattle.ellipeinc.specs.Ellipeinc.{signOf, itselfOf, farOf, lineOf, ownOf, twoTermsFrom, twoTermsOf, trustedTermsOf, belowOf, aboveOf, recipeOf, withPeriodsOf, byRecipeOf, reducedOf, onSizeOf, countedOf, ellipeincOf};
+ghost use Rattle.ellipeinc.specs.Ellipeinc.{signOf, itselfOf, farOf, lineOf, ownOf, twoTermsFrom, twoTermsOf, trustedTermsOf, belowOf, aboveOf, recipeOf, withPeriodsOf, byRecipeOf, reducedOf, onSizeOf, countedOf};
 
 // 2^12
 const CANCELLING: f64 = 4096.0;
@@ -192,7 +192,7 @@ fn on_size(sign: f64, size: f64, m: f64) -> Counted
 }
 
 // The answer, and the rounds of all recipes asked for it.
-pub fn counted(phi: Amplitude, m: Parameter) -> Counted
+pub fn ellipeinc(phi: Amplitude, m: Parameter) -> Counted
     ensures { λ r. ⌜ r ≡ countedOf (phi .0) (m .0) ⌝ }
 {
     let phi = phi.0;
@@ -220,10 +220,4 @@ pub fn counted(phi: Amplitude, m: Parameter) -> Counted
     }
     let sign = sign(phi);
     on_size(sign, size, m)
-}
-
-pub fn ellipeinc(phi: Amplitude, m: Parameter) -> Answer
-    ensures { λ r. ⌜ r ≡ ellipeincOf (phi .0) (m .0) ⌝ }
-{
-    counted(phi, m).answer
 }

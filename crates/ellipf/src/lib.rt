@@ -20,7 +20,7 @@ use incomplete::on_circle;
 use incomplete::sine;
 use rf::rf;
 ghost use mathlib.Core.Path.{_≡_};
-ghost use Rattle.ellipf.specs.Ellipf.{signumOf, poleOf, farOf, middleOf, recipeOf, closedOf, withPeriodsOf, reducedOf, countedOf, ellipfOf};
+ghost use Rattle.ellipf.specs.Ellipf.{signumOf, poleOf, farOf, middleOf, recipeOf, closedOf, withPeriodsOf, reducedOf, countedOf};
 
 // 1/φ tells -0 from +0.
 fn signum(phi: f64) -> f64
@@ -139,7 +139,7 @@ fn reduced(sign: f64, size: f64, m: f64) -> Counted
 }
 
 // The answer, and the rounds of the recipe asked for it.
-pub fn counted(phi: Amplitude, m: Parameter) -> Counted
+pub fn ellipf(phi: Amplitude, m: Parameter) -> Counted
     ensures { λ r. ⌜ r ≡ countedOf (phi .0) (m .0) ⌝ }
 {
     let phi = phi.0;
@@ -159,10 +159,4 @@ pub fn counted(phi: Amplitude, m: Parameter) -> Counted
         return unasked(far(sign, size, m));
     }
     reduced(sign, size, m)
-}
-
-pub fn ellipf(phi: Amplitude, m: Parameter) -> Answer
-    ensures { λ r. ⌜ r ≡ ellipfOf (phi .0) (m .0) ⌝ }
-{
-    counted(phi, m).answer
 }

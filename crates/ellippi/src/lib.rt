@@ -14,7 +14,7 @@ use legendre::complete_k;
 use rj::rj;
 use rj::with_rf;
 ghost use mathlib.Core.Path.{_≡_};
-ghost use Rattle.ellippi.specs.Ellippi.{plainTerm, fromRestOf, principalOf, weightOf, bothBelowOf, firstBelowOf, firstZeroOf, diagonalOf, armsOf, countedOf, ellippiOf};
+ghost use Rattle.ellippi.specs.Ellippi.{plainTerm, fromRestOf, principalOf, weightOf, bothBelowOf, firstBelowOf, firstZeroOf, diagonalOf, armsOf, countedOf};
 
 // A formula that asks no recipe.
 fn plain_term(value: f64) -> Term
@@ -136,7 +136,7 @@ fn arms(n: f64, m: f64) -> Term
 }
 
 // The answer, and the rounds of all recipes asked for it.
-pub fn counted(n: Characteristic, m: Parameter) -> Counted
+pub fn ellippi(n: Characteristic, m: Parameter) -> Counted
     ensures { λ r. ⌜ r ≡ countedOf (n .0) (m .0) ⌝ }
 {
     let n = n.0;
@@ -162,10 +162,4 @@ pub fn counted(n: Characteristic, m: Parameter) -> Counted
         answer: settled(t.met, t.value),
         rounds: t.rounds,
     }
-}
-
-pub fn ellippi(n: Characteristic, m: Parameter) -> Answer
-    ensures { λ r. ⌜ r ≡ ellippiOf (n .0) (m .0) ⌝ }
-{
-    counted(n, m).answer
 }

@@ -1,5 +1,6 @@
--- What the functions' definitions keep: the end of ellipe's loop, signs and oddness, angles that a sine has an answer for, what infinite and NaN arguments do to a recipe, identities
+-- What the functions' definitions keep: a value's one set of parts, the end of ellipe's loop, signs and oddness, angles that a sine has an answer for, what infinite and NaN arguments do to a recipe, identities
 -- that hold bit for bit.
+pub mod Unique
 pub mod Ratios
 pub mod MeanRound
 pub mod StopTest

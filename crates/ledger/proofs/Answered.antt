@@ -1,19 +1,18 @@
 -- What the public calls hand back, refused and not. Assumes nothing.
-use mathlib.Core.Path.{_≡_, ap, _∙_, sym}
-use mathlib.Core.Bool.{true, false}
+use mathlib.Core.Path.{_≡_, refl, ap, _∙_, sym}
+use mathlib.Core.Bool.{Bool, true, false, cond}
 use mathlib.Core.List.{List}
 use Prim.Native.Nat.{ℕ, _+_, _<_, _≤_}
 use native.Mathlib.Omega.{arith}
 use borrow.Author.Tests.{eq-eqb, ne-eqb, lt-ltb, le-ltb}
 use lib.Dec.{eqb}
 use lib.ListN.{length, getD, replicate, List·getD-eq-default}
-use lib.Ieee.{Float}
 use Rattle.laws.specs.Arithmetic.{+0}
-use Rattle.total.specs.Total.{roundTotal}
+use lib.Ieee.{round, ofBits}
+use Rattle.total.specs.Total.{Half, roundTotal}
 use Rattle.ledger.specs.Sheet.{Row, rowPlace, mostRows, sizeFor, encode, blankRow}
-use Rattle.ledger.specs.Calls.{rowsIn, rowIn, countsIn, totalIn, isSheet, rowRefusal, totalRefusal, placeRefusal, blankRefusal, edited, placeOf, blankOf, totalOf, exactOf, countOf}
-use Rattle.ledger.specs.laws.Refusals.{length-counts, row-room, read-48, readable, sheet-length}
-use Rattle.ledger.proofs.Tested.{total-7, total-0}
+use Rattle.ledger.specs.Calls.{Sized, rowsIn, rowIn, countsIn, totalIn, isSheet, rowRefusal, totalRefusal, placeRefusal, blankRefusal, edited, placeOf, blankOf, totalOf, exactOf, countOf}
+use Rattle.ledger.specs.laws.Refusals.{length-counts, row-room, read-48, readable, sheet-length, a-sheet}
 
 -- ---- a row placed
 module _ (s : List ℕ) (i : ℕ) (w : Row) (q : ℕ) (e : q ≡ placeRefusal s i w) where
@@ -47,41 +46,46 @@ module _ (s : List ℕ) (i q : ℕ) (e : q ≡ rowRefusal s i) where
     read-length w d = ap length d ∙ read-48 s i (sym e ∙ h)
 
 -- ---- the total and the counts
-module _ (s : List ℕ) where
-  refused : isSheet s ≡ false → eqb (totalRefusal s) 0 ≡ false
-  refused h = ne-eqb (totalRefusal s) 0 (λ z. let k = total-7 s h in omega arith)
+module _ (s : List ℕ) (q : ℕ) (e : q ≡ totalRefusal s) where
+  module _ (h : q ≡ 0 → ⊥) where
+    refused : eqb (totalRefusal s) 0 ≡ false
+    refused = ne-eqb (totalRefusal s) 0 (λ z. h (e ∙ z))
 
-  given : isSheet s ≡ true → eqb (totalRefusal s) 0 ≡ true
-  given h = eq-eqb (totalRefusal s) 0 (sym (total-0 s h))
+    pub exact-refused : 0 ≡ exactOf s
+    unfolding exactOf
+    exact-refused = rw refused
 
-  pub total-refused : isSheet s ≡ false → +0 ≡ totalOf s
-  unfolding totalOf
-  total-refused h = rw (refused h)
+    pub count-refused : (k : ℕ) → 0 ≡ countOf s k
+    unfolding countOf
+    count-refused k = rw refused
 
-  pub exact-refused : isSheet s ≡ false → 0 ≡ exactOf s
-  unfolding exactOf
-  exact-refused h = rw (refused h)
+  module _ (h : q ≡ 0) where
+    given : eqb (totalRefusal s) 0 ≡ true
+    given = eq-eqb (totalRefusal s) 0 (sym e ∙ h)
 
-  pub count-refused : (k : ℕ) → isSheet s ≡ false → 0 ≡ countOf s k
-  unfolding countOf
-  count-refused k h = rw (refused h)
-
-  module _ (h : isSheet s ≡ true) where
-    pub total-given : (x : Float) (v : ℕ) → x ≡ roundTotal v → v ≡ totalIn s → x ≡ totalOf s
-    unfolding totalOf
-    total-given x v e d = rw (given h) (e ∙ ap roundTotal d)
+    pub total-room : Sized s
+    total-room = sheet-length s (a-sheet s q e h)
 
     pub exact-given : totalIn s ≡ exactOf s
     unfolding exactOf
-    exact-given = rw (given h)
+    exact-given = rw given
 
     pub count-none : (k : ℕ) → 4 < k → 0 ≡ countOf s k
     unfolding countOf
-    count-none k g = rw (given h) (sym (List·getD-eq-default (countsIn s) 0 {n = k} (omega (arith, length-counts s))))
+    count-none k g = rw given (sym (List·getD-eq-default (countsIn s) 0 {n = k} (omega (arith, length-counts s))))
 
     pub count-given : (k : ℕ) (l : List ℕ) → l ≡ countsIn s → getD l k 0 ≡ countOf s k
     unfolding countOf
-    count-given k l e = rw (given h) (ap (λ (t : List ℕ). getD t k 0) e)
+    count-given k l d = rw given (ap (λ (t : List ℕ). getD t k 0) d)
+
+-- the exact total, 0 where it is refused, rounds to the total, +0 there
+pub total-exact : (s : List ℕ) → roundTotal (exactOf s) ≡ totalOf s
+unfolding exactOf totalOf roundTotal Half round ofBits
+total-exact s = go (eqb (totalRefusal s) 0)
+  where
+    go : (b : Bool) → roundTotal (cond b (totalIn s) 0) ≡ cond b (roundTotal (totalIn s)) +0
+    go true = refl
+    go false = refl
 
 -- ---- a blank sheet
 module _ (s : List ℕ) (r : ℕ) where

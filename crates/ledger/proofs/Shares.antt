@@ -3,12 +3,14 @@ use mathlib.Core.Path.{_≡_, refl, ap, _∙_, sym}
 use mathlib.Core.Bool.{true, false, not, false≢true}
 use Prim.Native.Nat.{ℕ, _≤_, _<_}
 use borrow.Author.Tests.{eq-eqb, ne-eqb, lt-ltb, le-ltb, le-leb, lt-leb}
+use lib.ListN.{length}
 use lib.Ieee.{Float, nan, inf, fin, eq, ne, isNan, ofBits}
 use Rattle.laws.specs.Arithmetic.{+0, +∞, -∞}
 use Rattle.laws.specs.laws.Kinds.{nan-of}
 use Rattle.answer.specs.Numbers.{last, stored}
+use Rattle.ledger.specs.declared.row.Share.{Share}
 use Rattle.ledger.specs.Sheet.{Row, functionIn, refusalIn, timesIn, firstIn, soundOf, kindOf, classOf, valueOf}
-use Rattle.ledger.specs.Calls.{Shared}
+use Rattle.ledger.specs.Calls.{Shared, shareOf}
 
 -- ---- the kind of a value
 pub kind-nan : (x : Float) → ne x x ≡ true → 5 ≡ kindOf x
@@ -67,6 +69,22 @@ module _ (w : Row) (t : ℕ) (f : t ≡ timesIn w) where
       pub share-none : (k ≡ 1 → ⊥) → Shared w k +0 t
       unfolding valueOf
       share-none n = (class-kind, rw (ne-eqb (classOf w) 1 (λ z. n (class-kind ∙ z))), f)
+
+-- ---- and as one record, for any bytes: no row, or a row's 48
+pub no-row : (w : Row) → (length w ≡ 48 → ⊥) → record { class = 5; value = +0; times = 0 } ≡ shareOf w
+unfolding shareOf
+no-row w h = rw (ne-eqb (length w) 48 h)
+
+module _ (w : Row) (h : length w ≡ 48) where
+  pub a-row : (class : ℕ) (x : Float) (k : ℕ) → Shared w class x k → record { class = class; value = x; times = k } ≡ shareOf w
+  unfolding shareOf
+  a-row class x k e = rw (eq-eqb (length w) 48 h) (λ i. record { class = e .0 i; value = e .1 i; times = e .2 i })
+
+pub shared : (w v : Row) → w ≡ v → length v ≡ 48 → (r : Share) → r ≡ shareOf w → Shared v (r .class) (r .value) (r .times)
+unfolding shareOf
+shared w v d h r e =
+    let k : r ≡ record { class = classOf v; value = valueOf v; times = timesIn v } = e ∙ ap shareOf d ∙ rw (eq-eqb (length v) 48 h) refl in
+    (λ i. k i .class, λ i. k i .value, λ i. k i .times)
 
 -- ---- the row tests, one by one
 module _ (f q : ℕ) (x : Float) where

@@ -3,7 +3,7 @@ use super::bytes::get_u32;
 use super::row::function_of;
 use super::row::is_sound;
 use super::row::row_part;
-use super::row::share_in;
+use super::row::share_of;
 use super::row::words_sound;
 use super::totals::read_counts;
 use super::totals::sum;
@@ -79,7 +79,7 @@ fn is_miscounted(s: &[u8], row: u32) -> bool
     requires { ⌜ Sized (now s) × (row < rowsIn (now s)) × (sound (rowIn (now s) row) ≡ true) ⌝ }
     ensures { λ r. ⌜ r ≡ miscounted (now (s .entry)) row ⌝ }
 {
-    let class = share_in(row_part(s, row)).class;
+    let class = share_of(row_part(s, row)).class;
     let counts = read_counts(s);
     if sum(counts) != rows_in(s) as u64 {
         return true;

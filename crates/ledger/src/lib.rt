@@ -16,7 +16,6 @@ pub use row::can_stand;
 use row::driven;
 use row::put_row;
 use row::row_part;
-use row::share_in;
 pub use row::share_of;
 use total::Total;
 use totals::read_counts;
@@ -95,9 +94,9 @@ fn store(sheet: &mut [u8], row: u32, words: [u64; 6])
     requires { ⌜ Sized (now sheet) × (rowsIn (now sheet) ≤ mostRows) × (row < rowsIn (now sheet)) × (damaged (now sheet) row ≡ false) × (classOf (fields 8 words) < 5) ⌝ }
     ensures { λ _. ⌜ now (sheet .exit) ≡ edited (now (sheet .entry)) row (fields 8 words) ⌝ }
 {
-    let old = share_in(row_part(sheet, row));
+    let old = share_of(row_part(sheet, row));
     put_row(sheet, row, words);
-    let new = share_in(row_part(sheet, row));
+    let new = share_of(row_part(sheet, row));
     revise(sheet, old, new);
 }
 
@@ -133,26 +132,6 @@ pub fn row_times(sheet: &[u8], row: u32) -> u16
     driven(row_part(sheet, row), keeps_times(sheet))
 }
 
-// The total rounded once to f64, and +0 where `total_refusal` is not 0.
-pub fn total(sheet: &[u8]) -> f64
-    ensures { λ r. ⌜ r ≡ totalOf (now (sheet .entry)) ⌝ }
-{
-    if !is_sheet(sheet) {
-        return 0.0;
-    }
-    Total::of(read_total(sheet)).rounded()
-}
-
-// The total as it is stored, in limbs; 0 where `total_refusal` is not 0.
-pub fn exact_total(sheet: &[u8]) -> [u64; 34]
-    ensures { λ r. ⌜ val r ≡ exactOf (now (sheet .entry)) ⌝ }
-{
-    if !is_sheet(sheet) {
-        return [0u64; 34];
-    }
-    read_total(sheet)
-}
-
 // 7, or 0: the bytes are a sheet.
 pub fn total_refusal(sheet: &[u8]) -> u8
     ensures { λ r. ⌜ r ≡ totalRefusal (now (sheet .entry)) ⌝ }
@@ -163,11 +142,28 @@ pub fn total_refusal(sheet: &[u8]) -> u8
     0
 }
 
+// The total as it is stored, in limbs; 0 where `total_refusal` is not 0.
+pub fn exact_total(sheet: &[u8]) -> [u64; 34]
+    ensures { λ r. ⌜ val r ≡ exactOf (now (sheet .entry)) ⌝ }
+{
+    if total_refusal(sheet) != 0 {
+        return Total::zero().limbs();
+    }
+    read_total(sheet)
+}
+
+// The total rounded once to f64, and +0 where `total_refusal` is not 0.
+pub fn total(sheet: &[u8]) -> f64
+    ensures { λ r. ⌜ r ≡ totalOf (now (sheet .entry)) ⌝ }
+{
+    Total::of(exact_total(sheet)).rounded()
+}
+
 // How many rows are blank (0), finite (1), +∞ (2), -∞ (3) or refused (4), by the sheet's own counts; 0 for another class or where `total_refusal` is not 0.
 pub fn count(sheet: &[u8], class: u8) -> u32
     ensures { λ r. ⌜ r ≡ countOf (now (sheet .entry)) class ⌝ }
 {
-    if !is_sheet(sheet) {
+    if total_refusal(sheet) != 0 {
         return 0;
     }
     if class > 4 {

@@ -11,7 +11,7 @@ ghost use lib.Dec.{eqb};
 ghost use Rattle.laws.specs.Ladder.{when_gives_else_};
 ghost use Rattle.laws.specs.Splice.{splice};
 ghost use Rattle.ledger.specs.Bytes.{fields};
-ghost use Rattle.ledger.specs.Calls.{rowIn, Shared, shareOf};
+ghost use Rattle.ledger.specs.Calls.{rowIn, shareOf};
 ghost use Rattle.ledger.specs.Sheet.{rowPlace, functionIn, refusalIn, timesIn, firstIn, kindOf, soundOf, sound};
 
 // The row writer.
@@ -93,10 +93,17 @@ pub struct Share {
     pub times: u16,
 }
 
-pub(crate) fn share_in(row: &[u8]) -> Share
-    requires { ⌜ length (now row) ≡ 48 ⌝ }
-    ensures { λ r. ⌜ Shared (now (row .entry)) (r .class) (r .value) (r .times) ⌝ }
+// The share of a row's own 48 bytes; other bytes have no class, no value and no times.
+pub fn share_of(row: &[u8]) -> Share
+    ensures { λ r. ⌜ r ≡ shareOf (now (row .entry)) ⌝ }
 {
+    if row.len() != 48 {
+        return Share {
+            class: 5,
+            value: 0.0,
+            times: 0,
+        };
+    }
     let k = times(row);
     if row[0] == 0 {
         return Share {
@@ -126,20 +133,6 @@ pub(crate) fn share_in(row: &[u8]) -> Share
         value: 0.0,
         times: k,
     }
-}
-
-// The share of a row's own 48 bytes; other bytes have no class, no value and no times.
-pub fn share_of(row: &[u8]) -> Share
-    ensures { λ r. ⌜ r ≡ shareOf (now (row .entry)) ⌝ }
-{
-    if row.len() != 48 {
-        return Share {
-            class: 5,
-            value: 0.0,
-            times: 0,
-        };
-    }
-    share_in(row)
 }
 
 // Whether these can be what a row says that was stored: refusal 10's row tests.

@@ -1,3 +1,2 @@
--- Long lines are malformed whatever they say; lines read by computing.
+-- Long lines are malformed whatever they say.
 pub mod Long
-pub mod Examples

@@ -3,7 +3,7 @@ use crate::Number;
 ghost use mathlib.Core.Path.{_≡_};
 ghost use Prim.Native.Nat.{_≤_, _<_};
 ghost use lib.ListN.{length};
-ghost use Rattle.line.specs.Line.{digitOf, spellOf, decimalOf, patternOf};
+ghost use Rattle.line.specs.Line.{digitOf, spellOf, decimalOf, hexOf, patternOf};
 
 fn wide(b: u8) -> u64
     ensures { λ r. ⌜ r ≡ b ⌝ }
@@ -30,7 +30,7 @@ fn digit(b: u8) -> u64
 }
 
 // At most 16 digits of a base up to 16: their number fits, so nothing wraps.
-pub(crate) fn spell(s: &[u8], base: u64) -> Number
+fn spell(s: &[u8], base: u64) -> Number
     requires { ⌜ (base ≤ 16) × (length (now s) ≤ 16) ⌝ }
     ensures { λ r. ⌜ r ≡ spellOf base 0 (now (s .entry)) ⌝ }
 {
@@ -62,11 +62,21 @@ pub(crate) fn decimal(s: &[u8]) -> Number
     spell(s, 10)
 }
 
+// Up to 16 hex digits, as the stored lists have them.
+pub fn read_hex(s: &[u8]) -> Number
+    ensures { λ r. ⌜ r ≡ hexOf (now (s .entry)) ⌝ }
+{
+    if 16 < s.len() {
+        return Number::Not;
+    }
+    spell(s, 16)
+}
+
 pub(crate) fn pattern(s: &[u8]) -> Number
     ensures { λ r. ⌜ r ≡ patternOf (now (s .entry)) ⌝ }
 {
     if s.len() == 16 {
-        return spell(s, 16);
+        return read_hex(s);
     }
     Number::Not
 }

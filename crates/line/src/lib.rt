@@ -3,10 +3,10 @@ mod digits;
 mod fields;
 
 use digits::decimal;
-use digits::spell;
+pub use digits::read_hex;
 use fields::field;
 ghost use mathlib.Core.Path.{_≡_};
-ghost use Rattle.line.specs.Line.{decimalOf, hexOf, editFrom, lineOf};
+ghost use Rattle.line.specs.Line.{decimalOf, editFrom, lineOf};
 
 // The longest line that can be well formed: three numbers of ten digits, three patterns, five spaces.
 pub const LONGEST: usize = 83;
@@ -33,16 +33,6 @@ pub fn read_count(s: &[u8]) -> Number
     ensures { λ r. ⌜ r ≡ decimalOf (now (s .entry)) ⌝ }
 {
     decimal(s)
-}
-
-// Up to 16 hex digits, as the stored lists have them.
-pub fn read_hex(s: &[u8]) -> Number
-    ensures { λ r. ⌜ r ≡ hexOf (now (s .entry)) ⌝ }
-{
-    if 16 < s.len() {
-        return Number::Not;
-    }
-    spell(s, 16)
 }
 
 // Six numbers as an edit: one that is none, or does not fit, makes it malformed.

@@ -111,12 +111,6 @@ impl State {
     }
 }
 
-pub fn rd(x: f64, y: f64, z: f64) -> Outcome
-    ensures { λ r. ⌜ r ≡ rdOf x y z ⌝ }
-{
-    State::start(x, y, z).finish(0)
-}
-
 // RF and RD of the same arguments. Their rounds take the same roots: while neither stops they make them together, each root taken once; then each goes on alone.
 pub fn with_rf(x: f64, y: f64, z: f64) -> Both
     ensures { λ r. ⌜ (r .first ≡ rfOf x y z) × (r .second ≡ rdOf x y z) ⌝ }

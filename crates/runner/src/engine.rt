@@ -7,7 +7,7 @@ ghost use mathlib.Core.Path.{_≡_};
 ghost use Prim.Native.Nat.{_≤_};
 ghost use lib.ListN.{length};
 ghost use Rattle.page.specs.Page.{largest};
-ghost use Rattle.runner.specs.Machine.{longest, room, startOf, fixingOf, longerOf, endOf, stepOf, feedOf, finishOf};
+ghost use Rattle.runner.specs.Machine.{longest, room, startOf, longerOf, endOf, stepOf, feedOf, finishOf};
 
 // No sheet yet: line 1 is the row count.
 pub fn start() -> State
@@ -20,13 +20,6 @@ pub fn start() -> State
         begun: false,
         bad: false,
     }
-}
-
-// A sheet of so many bytes is there: line 1 is an edit.
-pub(crate) fn fixing(size: usize) -> State
-    ensures { λ r. ⌜ r ≡ fixingOf size ⌝ }
-{
-    between(0, size, false)
 }
 
 // One more byte of a line is held; the 84th stands for all that follow.

@@ -6,10 +6,10 @@ mod lines;
 mod reading;
 
 use ending::State;
-use engine::fixing;
 pub use engine::start;
 use keeping::keep;
 use line::LONGEST;
+use lines::between;
 use page::LARGEST;
 pub use reading::Turn;
 pub use reading::take_all;
@@ -66,7 +66,7 @@ pub fn run_on(program: &[u8], input: i32, output: i32, name: &[u8], bytes: &[u8]
         output,
         true,
         name,
-        fixing(bytes.len()),
+        between(0, bytes.len(), false),
         &mut sheet,
     );
     true

@@ -33,9 +33,9 @@ pub fn counted(function: u8, a: u64, b: u64, c: u64) -> Counted
         1 => unasked(legendre::ellipk(Parameter(x))),
         2 => unasked(legendre::ellipe(Parameter(x))),
         3 => unasked(legendre::ellipke(Parameter(x))),
-        4 => ellippi::counted(Characteristic(x), Parameter(y)),
-        5 => ellipeinc::counted(Amplitude(x), Parameter(y)),
-        6 => ellipf::counted(Amplitude(x), Parameter(y)),
+        4 => ellippi::ellippi(Characteristic(x), Parameter(y)),
+        5 => ellipeinc::ellipeinc(Amplitude(x), Parameter(y)),
+        6 => ellipf::ellipf(Amplitude(x), Parameter(y)),
         _ => unasked(Answer::Refused(9)),
     }
 }

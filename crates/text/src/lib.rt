@@ -66,30 +66,15 @@ pub fn put_bytes(out: &mut [u8], at: usize, text: &[u8]) -> usize
     at + i
 }
 
-// A number's digits, and the byte after them.
-fn put_number(out: &mut [u8], at: usize, all: bool, base: u64, k: usize, n: u64, after: u8) -> usize
-    requires { ⌜ (1 < base) × (base ≤ 16) × (k ≤ 20) ⌝ }
-    ensures { λ r. ⌜ Puts (now (out .entry)) (now (out .exit)) at r (k + 1) (digitsOf all base k n ++ (after ∷ [])) ⌝ }
-{
-    if lacks(out.len(), at, k + 1) {
-        return at;
-    }
-    let next = put_digits(out, at, all, base, k, n);
-    put_byte(out, next, after)
-}
-
 // A number in decimal, and the byte after it.
 pub fn put_decimal(out: &mut [u8], at: usize, n: u64, after: u8) -> usize
     ensures { λ r. ⌜ Puts (now (out .entry)) (now (out .exit)) at r 21 (decimal n ++ (after ∷ [])) ⌝ }
 {
-    put_number(out, at, false, 10, 20, n, after)
-}
-
-// A bit pattern's 16 digits, and the byte after them.
-pub fn put_pattern(out: &mut [u8], at: usize, n: u64, after: u8) -> usize
-    ensures { λ r. ⌜ Puts (now (out .entry)) (now (out .exit)) at r 17 (pattern n ++ (after ∷ [])) ⌝ }
-{
-    put_number(out, at, true, 16, 16, n, after)
+    if lacks(out.len(), at, 21) {
+        return at;
+    }
+    let next = put_digits(out, at, false, 10, 20, n);
+    put_byte(out, next, after)
 }
 
 // A number in hex: all 16 digits, or none in front of the number.
@@ -100,6 +85,17 @@ pub fn put_hex(out: &mut [u8], at: usize, all: bool, n: u64) -> usize
         return at;
     }
     put_digits(out, at, all, 16, 16, n)
+}
+
+// A bit pattern's 16 digits, and the byte after them.
+pub fn put_pattern(out: &mut [u8], at: usize, n: u64, after: u8) -> usize
+    ensures { λ r. ⌜ Puts (now (out .entry)) (now (out .exit)) at r 17 (pattern n ++ (after ∷ [])) ⌝ }
+{
+    if lacks(out.len(), at, 17) {
+        return at;
+    }
+    let next = put_hex(out, at, true, n);
+    put_byte(out, next, after)
 }
 
 // Three numbers, a space between them, and the byte after the last.

@@ -63,7 +63,8 @@ impl Total {
     pub fn rounded(self) -> f64
         ensures { λ r. ⌜ r ≡ roundTotal (val (self .limbs)) ⌝ }
     {
-        let held = self.limbs;
-        rounding::round_limbs(held)
+        let signed = self.size();
+        let size = signed.limbs;
+        rounding::round_size(signed.negative, size)
     }
 }

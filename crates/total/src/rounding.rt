@@ -5,7 +5,7 @@ ghost use Prim.Native.Nat.{_+_, _-_, _^_, _≤_, _<_};
 ghost use lib.Dec.{ltb};
 ghost use lib.ListN.{take, getD};
 ghost use lib.Ieee.{round, binary64};
-ghost use Rattle.total.specs.Total.{val, limbsOf, sizeOfTotal, signedOf, roundTotal, N};
+ghost use Rattle.total.specs.Total.{val, limbsOf, sizeOfTotal, signedOf, N};
 
 // Whether any of the first n limbs is not 0.
 fn any_below(limbs: [u64; 34], n: usize) -> bool
@@ -59,7 +59,7 @@ fn negated(limbs: [u64; 34]) -> [u64; 34]
 }
 
 // A number without its sign: the two highest limbs, and whether anything is left below them, go to the one rounding.
-fn round_size(negative: bool, limbs: [u64; 34]) -> f64
+pub(crate) fn round_size(negative: bool, limbs: [u64; 34]) -> f64
     ensures { λ r. ⌜ r ≡ round binary64 negative (val limbs) (2 ^ 1074) ⌝ }
 {
     let at = highest(limbs);
@@ -96,12 +96,4 @@ pub(crate) fn sized(limbs: [u64; 34]) -> Signed
         negative: false,
         limbs: limbs,
     }
-}
-
-pub(crate) fn round_limbs(limbs: [u64; 34]) -> f64
-    ensures { λ r. ⌜ r ≡ roundTotal (val limbs) ⌝ }
-{
-    let signed = sized(limbs);
-    let size = signed.limbs;
-    round_size(signed.negative, size)
 }

@@ -11,7 +11,7 @@ use Rattle.answer.specs.Answer.{valueOf}
 use Rattle.answer.specs.declared.Counted.{Counted}
 use Rattle.answer.specs.declared.Term.{Term}
 use Rattle.answer.specs.laws.Fair.{rung}
-use Rattle.answer.specs.laws.Rounds.{asked}
+use Rattle.counted.specs.laws.Asked.{asked}
 use Rattle.rf.specs.Rf.{rfOf}
 use Rattle.rf.specs.laws.Counts.{rf-counts}
 use Rattle.rd.specs.Rd.{rdOf}

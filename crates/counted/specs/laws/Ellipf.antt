@@ -12,7 +12,7 @@ use Rattle.answer.specs.Settle.{infiniteOf}
 use Rattle.answer.specs.declared.Counted.{Counted}
 use Rattle.answer.specs.declared.Term.{Term}
 use Rattle.answer.specs.laws.Fair.{rung}
-use Rattle.answer.specs.laws.Rounds.{asked}
+use Rattle.counted.specs.laws.Asked.{asked}
 use Rattle.rf.specs.laws.Counts.{rf-counts}
 use Rattle.incomplete.specs.Period.{far-out, foldedOf}
 use Rattle.incomplete.specs.Scaling.{λ4, largeOf}

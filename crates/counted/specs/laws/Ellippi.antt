@@ -11,7 +11,7 @@ use Rattle.laws.specs.laws.Flags.{both-true}
 use Rattle.answer.specs.declared.Counted.{Counted}
 use Rattle.answer.specs.declared.Term.{Term}
 use Rattle.answer.specs.laws.Fair.{rung}
-use Rattle.answer.specs.laws.Rounds.{asked, none, failed}
+use Rattle.counted.specs.laws.Asked.{asked, none, failed}
 use Rattle.rf.specs.laws.Counts.{rf-counts}
 use Rattle.rj.specs.laws.Counts.{rj-counts, few-inside}
 use Rattle.ellippi.specs.Ellippi.{plainTerm, fromRestOf, principalOf, bothBelowOf, firstBelowOf, firstZeroOf, diagonalOf, armsOf, countedOf}

@@ -10,7 +10,7 @@ use Rattle.laws.specs.Arithmetic.{float}
 use Rattle.answer.specs.Numbers.{last}
 use Rattle.answer.specs.declared.Counted.{Counted}
 use Rattle.answer.specs.laws.Fair.{rung}
-use Rattle.answer.specs.laws.Rounds.{asked, failed}
+use Rattle.counted.specs.laws.Asked.{asked, failed}
 use Rattle.counted.specs.laws.Ellippi.{ellippi-few}
 use Rattle.counted.specs.laws.Ellipeinc.{ellipeinc-few}
 use Rattle.counted.specs.laws.Ellipf.{ellipf-few}

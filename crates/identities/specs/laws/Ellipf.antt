@@ -41,7 +41,6 @@ use Rattle.ellipf.specs.Ellipf.{signumOf, poleOf, farOf, middleOf, recipeOf, cl
 use Rattle.whole.specs.laws.Magnitude.{magnitude-inf, magnitude-fin, magnitude-neg}
 use Rattle.identities.specs.laws.Signs.{mul-neg, square-neg, plain, round-plain}
 use Rattle.identities.specs.laws.Odd.{same-kind, one-turned, after, rung, handed-odd}
-use Rattle.answer.specs.laws.Rounds.{answer-of}
 use Rattle.identities.specs.laws.Angles.{P, quarter, quarter-finite}
 
 abbrev answer : Counted → Answer
@@ -95,6 +94,10 @@ unsigned : (s : Bool) (n : ℕ) (e : ℤ) → T (fits binary64 (fin s n e)) → 
 unfolding fits
 unsigned s zero e f = f
 unsigned s (suc n) e f = f
+
+answer-of : (t : Bool) (a b : Counted) → cond t a b .answer ≡ cond t (a .answer) (b .answer)
+answer-of true a b = refl
+answer-of false a b = refl
 
 reduced-answer : (sign size m : Float) → let f = foldedOf size in let sine = valueOf (sineOf (f .angle)) in
     reducedOf sign size m .answer ≡ (when 1·0 ≤· m ⊗ (sine ⊗ sine) gives Refused 3 else withPeriodsOf sign m (f .mm) (recipeOf (f .s) m sine (valueOf (cosineOf (f .angle)))))

@@ -23,8 +23,8 @@ slice-aggregate-put-bytes c = search needs
 put-bytes-requires : tie.Need-put-bytes-requires
 put-bytes-requires c κs = search needs
 
-fixing-requires : tie.Need-fixing-requires
-fixing-requires c κs = search needs
+between-requires : tie.Need-between-requires
+between-requires c κs = search needs
 
 run-from-requires : tie.Need-run-from-requires
 run-from-requires c κs =
@@ -32,7 +32,7 @@ run-from-requires c κs =
     let q = c .before .before .before .before .before .before .total-refusal in
     let sheet = a-sheet bytes (q .result) (q .ensures) (c .before .before .before .before .before .if1 .left) in
     let put = c .before .before .before .put-bytes in
-    rw (c .before .fixing .ensures, begun-with bytes _ (put .last .0) (put .result) sheet refl (put .ensures)) (fix-begins bytes _ (put .last .0) (put .result) sheet refl (put .ensures))
+    rw (c .before .between .ensures, begun-with bytes _ (put .last .0) (put .result) sheet refl (put .ensures)) (fix-begins bytes _ (put .last .0) (put .result) sheet refl (put .ensures))
 
 returns-2 : tie.Need-returns-2
 returns-2 c =
@@ -44,7 +44,7 @@ returns-2 c =
     let input = toZ-ofZ w32 (s .args .input) (s .fits .input) in
     let output = toZ-ofZ w32 (s .args .output) (s .fits .output) in (
       sym sheet,
-      λ _. rw (input, output, c .before .before .fixing .ensures, begun-with bytes _ (put .last .0) (put .result) sheet refl (put .ensures)) at (c .run-from .ensures),
+      λ _. rw (input, output, c .before .before .between .ensures, begun-with bytes _ (put .last .0) (put .result) sheet refl (put .ensures)) at (c .run-from .ensures),
     )
 
 pub run-on-spec : {M : Type 1} → statement M
@@ -55,6 +55,6 @@ run-on-spec =
     returns
     slice-aggregate-put-bytes
     put-bytes-requires
-    fixing-requires
+    between-requires
     run-from-requires
     returns-2)

@@ -53,6 +53,14 @@ module _ (s : List ℕ) (a room : ℕ) (text : List ℕ) where
   pub puts-none : length s < a + room → Puts s s a a room text
   puts-none h = record { put = λ (k : a + room ≤ length s). absurd (omega arith); none = λ _. (refl, refl) }
 
+-- a piece of at most k bytes, where there is room for it and a byte after it
+module _ (s : List ℕ) (a k : ℕ) (x : List ℕ) {t : List ℕ} {b : ℕ} (h : length x ≤ k) (l : a + (k + 1) ≤ length s) (p : Put s t a b x) where
+  pub room-after : b < length t
+  room-after = omega (arith, p .next, put-length s a x p (omega (arith, p .next)))
+
+  pub byte-after : (after : ℕ) {u : List ℕ} {c : ℕ} → Put t u b c (after ∷ []) → Puts s u a c (k + 1) (x ++ (after ∷ []))
+  byte-after after q = puts-all s a (k + 1) (x ++ (after ∷ [])) l (put-both s a x (after ∷ []) (omega (arith, p .next, q .next)) p q)
+
 -- a piece of at most so many bytes, where there is room for it
 pub placed : (s : List ℕ) (a room most : ℕ) (x : List ℕ) {t : List ℕ} {b : ℕ} → length x ≤ most → most ≤ room → a + room ≤ length s → Puts s t a b room x
     → Put s t a b x × (b ≤ a + most) × (length t ≡ length s)

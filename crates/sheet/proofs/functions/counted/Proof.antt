@@ -31,19 +31,19 @@ returns-5 : tie.Need-returns-5
 unfolding countedOf
 returns-5 c =
     let x = c .before in
-    rw (c .counted .ensures, x .before .before .from-pattern .ensures, x .before .from-pattern2 .ensures, x .match .keys5)
+    rw (c .ellippi .ensures, x .before .before .from-pattern .ensures, x .before .from-pattern2 .ensures, x .match .keys5)
 
 returns-6 : tie.Need-returns-6
 unfolding countedOf
 returns-6 c =
     let x = c .before in
-    rw (c .counted2 .ensures, x .before .before .from-pattern .ensures, x .before .from-pattern2 .ensures, x .match .keys6)
+    rw (c .ellipeinc .ensures, x .before .before .from-pattern .ensures, x .before .from-pattern2 .ensures, x .match .keys6)
 
 returns-7 : tie.Need-returns-7
 unfolding countedOf
 returns-7 c =
     let x = c .before in
-    rw (c .counted3 .ensures, x .before .before .from-pattern .ensures, x .before .from-pattern2 .ensures, x .match .keys7)
+    rw (c .ellipf .ensures, x .before .before .from-pattern .ensures, x .before .from-pattern2 .ensures, x .match .keys7)
 
 returns-8 : tie.Need-returns-8
 unfolding countedOf

@@ -1,15 +1,11 @@
--- Answers with their rounds, down a list of tests: the answer goes by the same tests, and rounds are made only below those that ask no recipe. Assumes nothing.
+-- Answers with their rounds, down a list of tests: rounds are made only below those that ask no recipe. Assumes nothing.
 use mathlib.Core.Path.{_≡_, refl}
 use mathlib.Core.Bool.{Bool, true, false, cond}
 use Prim.Native.Nat.{ℕ, zero, suc, _<_}
 use native.Mathlib.Omega.{arith}
 use Rattle.answer.specs.declared.Answer.{Answer}
 use Rattle.answer.specs.declared.Counted.{Counted}
 use Rattle.answer.specs.Settle.{unaskedOf}
-
-pub answer-of : (t : Bool) (a b : Counted) → cond t a b .answer ≡ cond t (a .answer) (b .answer)
-answer-of true a b = refl
-answer-of false a b = refl
 
 pub asked : (t : Bool) (a : Answer) (c : Counted) → 0 < cond t (unaskedOf a) c .rounds → (t ≡ false) × (0 < c .rounds)
 asked true a c h = absurd (let z : ⊥ = omega arith in z)

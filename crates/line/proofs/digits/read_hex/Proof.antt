@@ -4,8 +4,8 @@ use borrow.Author.Needs.{needs}
 use borrow.Author.Tests.{lt-ltb, le-ltb}
 use Rattle.laws.specs.Ladder.{held, passed}
 use Rattle.line.specs.Line.{hexOf}
-use Rattle.line.proofs.read_hex.Statement.{statement}
-use Rattle.line.proofs.read_hex.Tie as tie
+use Rattle.line.proofs.digits.read_hex.Statement.{statement}
+use Rattle.line.proofs.digits.read_hex.Tie as tie
 
 returns : tie.Need-returns
 unfolding hexOf

@@ -10,7 +10,7 @@ use lib.Seq.{drop-cons}
 use lib.Dec.{lit≤}
 use borrow.Author.Tests.{lt-ltb, le-ltb}
 use Rattle.line.specs.declared.Number.the-variants.{Value, Not}
-use Rattle.line.specs.Line.{digitOf, spellOf, hexOf}
+use Rattle.line.specs.Line.{digitOf, spellOf}
 
 module _ (base n d : ℕ) (s : List ℕ) (i : ℕ) (within : i < length s) (is : d ≡ digitOf (getD s i 0)) where
   pub no-digit : base ≤ d → spellOf base n (drop i s) ≡ Not
@@ -38,8 +38,3 @@ fits m i h below =
     let k : 16 ^ (i + 1) ≤ 16 ^ 16 = pow-le-pow-right (lit≤ tt) j in
     let e : 16 ^ 16 ≤ 2 ^ 64 = lit≤ tt in
     le-trans below (le-trans k e)
-
--- which are no more than a hex number has
-pub sixteen : (s : List ℕ) → length s ≡ 16 → hexOf s ≡ spellOf 16 0 s
-unfolding hexOf
-sixteen s e = rw (le-ltb 16 (length s) (omega (arith, e)))

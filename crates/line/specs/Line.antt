@@ -36,11 +36,12 @@ decimalOf s =
     when ltb 1 (length s) && eqb (getD s 0 0) 48 gives Not else
     spellOf 10 0 s
 
--- a hex number: up to 16 digits, and 0 for none
-unfoldable pub hexOf : List ℕ → Number
-hexOf s =
+-- up to 16 digits of a base up to 16; 0 for none
+unfoldable pub fewOf : ℕ → List ℕ → Number
+fewOf base s =
+    when ltb 16 base gives Not else
     when ltb 16 (length s) gives Not else
-    spellOf 16 0 s
+    spellOf base 0 s
 
 -- a bit pattern: 16 digits
 unfoldable pub patternOf : List ℕ → Number

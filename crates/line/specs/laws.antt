@@ -1,2 +1,3 @@
--- Long lines are malformed whatever they say.
+-- Long lines are malformed whatever they say; few digits are read as they are spelt.
 pub mod Long
+pub mod Few

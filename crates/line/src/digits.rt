@@ -1,9 +1,7 @@
 // A number's digits: decimal, or a bit pattern in 16 digits.
 use crate::Number;
 ghost use mathlib.Core.Path.{_≡_};
-ghost use Prim.Native.Nat.{_≤_, _<_};
-ghost use lib.ListN.{length};
-ghost use Rattle.line.specs.Line.{digitOf, spellOf, decimalOf, hexOf, patternOf};
+ghost use Rattle.line.specs.Line.{digitOf, fewOf, decimalOf, patternOf};
 
 fn wide(b: u8) -> u64
     ensures { λ r. ⌜ r ≡ b ⌝ }
@@ -11,7 +9,8 @@ fn wide(b: u8) -> u64
     b as u64
 }
 
-fn digit(b: u8) -> u64
+// What a digit is worth, '0' to '9' and 'a' to 'f'; 16 for any other byte.
+pub fn digit(b: u8) -> u64
     ensures { λ r. ⌜ r ≡ digitOf b ⌝ }
 {
     if b < 48 {
@@ -29,11 +28,16 @@ fn digit(b: u8) -> u64
     16
 }
 
-// At most 16 digits of a base up to 16: their number fits, so nothing wraps.
-fn spell(s: &[u8], base: u64) -> Number
-    requires { ⌜ (base ≤ 16) × (length (now s) ≤ 16) ⌝ }
-    ensures { λ r. ⌜ r ≡ spellOf base 0 (now (s .entry)) ⌝ }
+// Up to 16 digits of a base up to 16: their number fits, so nothing wraps.
+pub fn read_digits(s: &[u8], base: u64) -> Number
+    ensures { λ r. ⌜ r ≡ fewOf base (now (s .entry)) ⌝ }
 {
+    if 16 < base {
+        return Number::Not;
+    }
+    if 16 < s.len() {
+        return Number::Not;
+    }
     let mut n: u64 = 0;
     let mut i: usize = 0;
     while i < s.len() {
@@ -59,24 +63,14 @@ pub(crate) fn decimal(s: &[u8]) -> Number
     if (1 < s.len()) & (s[0] == 48) {
         return Number::Not;
     }
-    spell(s, 10)
-}
-
-// Up to 16 hex digits, as the stored lists have them.
-pub fn read_hex(s: &[u8]) -> Number
-    ensures { λ r. ⌜ r ≡ hexOf (now (s .entry)) ⌝ }
-{
-    if 16 < s.len() {
-        return Number::Not;
-    }
-    spell(s, 16)
+    read_digits(s, 10)
 }
 
 pub(crate) fn pattern(s: &[u8]) -> Number
     ensures { λ r. ⌜ r ≡ patternOf (now (s .entry)) ⌝ }
 {
     if s.len() == 16 {
-        return read_hex(s);
+        return read_digits(s, 16);
     }
     Number::Not
 }

@@ -3,7 +3,8 @@ mod digits;
 mod fields;
 
 use digits::decimal;
-pub use digits::read_hex;
+pub use digits::digit;
+pub use digits::read_digits;
 use fields::field;
 ghost use mathlib.Core.Path.{_≡_};
 ghost use Rattle.line.specs.Line.{decimalOf, editFrom, lineOf};

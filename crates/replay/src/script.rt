@@ -11,7 +11,7 @@ pub(crate) fn hex(s: &[u8], from: usize, count: usize) -> u64
     if s.len() < to {
         return 0;
     }
-    let Number::Value(x) = line::read_hex(&s[from..to]) else {
+    let Number::Value(x) = line::read_digits(&s[from..to], 16) else {
         return 0;
     };
     x
@@ -47,7 +47,7 @@ fn field(s: &[u8], at: usize, count: usize) -> bool
     if s[at] != b' ' {
         return false;
     }
-    let Number::Value(x) = line::read_hex(&s[from..to]) else {
+    let Number::Value(x) = line::read_digits(&s[from..to], 16) else {
         return false;
     };
     true
@@ -92,7 +92,7 @@ fn is_byte(s: &[u8], at: usize, b: u8) -> bool
     if s.len() < to {
         return false;
     }
-    let Number::Value(x) = line::read_hex(&s[at..to]) else {
+    let Number::Value(x) = line::read_digits(&s[at..to], 16) else {
         return false;
     };
     x == b as u64

@@ -9,7 +9,7 @@ pub(crate) fn shaped(s: &[u8]) -> bool {
             return false;
         }
         let end = at + 16;
-        let Number::Value(value) = line::read_hex(&s[at..end]) else {
+        let Number::Value(value) = line::read_digits(&s[at..end], 16) else {
             return false;
         };
         let mark = if s.len() - end == 1 { b'\n' } else { b' ' };
@@ -29,7 +29,7 @@ pub(crate) fn word(s: &[u8], at: usize) -> u64 {
     if s.len() - 16 < at {
         return 0;
     }
-    let Number::Value(value) = line::read_hex(&s[at..at + 16]) else {
+    let Number::Value(value) = line::read_digits(&s[at..at + 16], 16) else {
         return 0;
     };
     value

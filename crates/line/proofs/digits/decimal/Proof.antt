@@ -2,8 +2,11 @@
 use borrow.Author.Needs.{needs}
 use borrow.Author.Tests.{lt-ltb, le-ltb, eq-eqb, ne-eqb}
 use Rattle.laws.specs.Ladder.{held, passed}
-use mathlib.Core.Path.{refl}
+use mathlib.Core.Path.{refl, _∙_}
+use native.Mathlib.Nat.{le-trans}
+use lib.Dec.{lit≤}
 use Rattle.line.specs.Line.{decimalOf}
+use Rattle.line.specs.laws.Few.{few}
 use Rattle.line.proofs.digits.decimal.Statement.{statement}
 use Rattle.line.proofs.digits.decimal.Tie as tie
 
@@ -24,15 +27,15 @@ returns-3 c =
     passed _ _ (ne-eqb _ _ (c .before .before .before .if1 .left))
     (passed _ _ (le-ltb _ _ (c .before .before .if2 .left)) (held _ _ (c .if3 .taken) refl))
 
-spell-requires : tie.Need-spell-requires
-spell-requires c κs = search needs
+read-digits-requires : tie.Need-read-digits-requires
+read-digits-requires c κs = search needs
 
 returns-4 : tie.Need-returns-4
 unfolding decimalOf
 returns-4 c =
     passed _ _ (ne-eqb _ _ (c .before .before .before .before .if1 .left))
-    (passed _ _ (le-ltb _ _ (c .before .before .before .if2 .left)) (passed _ _ (c .before .if3 .left) (c .spell .ensures)))
+    (passed _ _ (le-ltb _ _ (c .before .before .before .if2 .left)) (passed _ _ (c .before .if3 .left) (c .read-digits .ensures ∙ few 10 _ (lit≤ tt) (le-trans (c .before .before .before .if2 .left) (lit≤ tt)))))
 
 pub decimal-spec : {M : Type 1} → statement M
 decimal-spec =
-    tie.close (tie.spec returns returns-2 shared-slice-read-if3 returns-3 spell-requires returns-4)
+    tie.close (tie.spec returns returns-2 shared-slice-read-if3 returns-3 read-digits-requires returns-4)

@@ -7,7 +7,7 @@ use Rattle.vectors.proofs.text.shaped.Statement.{statement}
 use Rattle.vectors.proofs.text.shaped.Tie as tie
 use Rattle.vectors.proofs.text.shaped.Reads as reads
 use Rattle.vectors.proofs.text.shaped.Lts as lts
-use Rattle.line.proofs.read_hex.Reads as read-hex-reads
+use Rattle.line.proofs.read_digits.Reads as read-digits-reads
 
 abbrev Inv-loop : tie.InvT-loop
 Inv-loop s at₀ at = at ≤ length s
@@ -27,17 +27,17 @@ returns c = search needs
 add-end : tie.Need-add-end Inv-loop μ-loop
 add-end c = omega arith
 
-sub-read-hex : tie.Need-sub-read-hex Inv-loop μ-loop
-sub-read-hex c = omega arith
+sub-read-digits : tie.Need-sub-read-digits Inv-loop μ-loop
+sub-read-digits c = omega arith
 
-part-read-hex-start : tie.Need-part-read-hex-start Inv-loop μ-loop
-part-read-hex-start c = omega arith
+part-read-digits-start : tie.Need-part-read-digits-start Inv-loop μ-loop
+part-read-digits-start c = omega arith
 
-part-read-hex-end : tie.Need-part-read-hex-end Inv-loop μ-loop
-part-read-hex-end c = omega arith
+part-read-digits-end : tie.Need-part-read-digits-end Inv-loop μ-loop
+part-read-digits-end c = omega arith
 
-read-hex-requires : tie.Need-read-hex-requires Inv-loop μ-loop
-read-hex-requires c κs = search needs
+read-digits-requires : tie.Need-read-digits-requires Inv-loop μ-loop
+read-digits-requires c κs = search needs
 
 enum-known-value : tie.Need-enum-known-value Inv-loop μ-loop
 enum-known-value c = search needs
@@ -79,10 +79,10 @@ shaped-spec =
     sub-if1
     returns
     add-end
-    sub-read-hex
-    part-read-hex-start
-    part-read-hex-end
-    read-hex-requires
+    sub-read-digits
+    part-read-digits-start
+    part-read-digits-end
+    read-digits-requires
     enum-known-value
     enum-told
     returns-2

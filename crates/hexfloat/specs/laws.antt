@@ -1,0 +1,5 @@
+-- Spellings computed (Examples); digits held are the number that they spell (Holding), how large that is (Sizes), and their rounding is its own (Scaled).
+pub mod Examples
+pub mod Holding
+pub mod Sizes
+pub mod Scaled

@@ -1,5 +1,5 @@
 -- What is held, with an exponent or none. Assumes nothing.
-use mathlib.Core.Path.{_≡_, refl, sym, ap, _∙_}
+use mathlib.Core.Path.{_≡_, refl, ap, _∙_}
 use Prim.Native.Nat.{ℕ, _+_, _*_, _^_, _<_}
 use native.Mathlib.Nat.{mul-one}
 use mathlib.Core.Bool.{Bool, cond}

@@ -8,19 +8,10 @@ use lib.Dec.{ltb, eqb}
 use lib.ListN.{length, take, drop, length-append}
 use lib.Seq.{length-take-le}
 use lib.Ieee.{binary64, round, toBits}
-use borrow.Author.Tests.{ltb-false, lt-ltb, le-ltb}
+use borrow.Author.Tests.{lt-ltb, le-ltb}
 use Rattle.line.specs.declared.Number.{Number}
 use Rattle.line.specs.declared.Number.the-variants.{Value, Not}
 use Rattle.hexfloat.specs.Reading.{before, hexOf, given, scaledBy, behindOf, mantissaOf, floatOf}
-
--- a count that the test lets pass
-pub few-digits : (k : ℕ) → (eqb k 0 || ltb 40 k) ≡ false → k ≤ 40
-few-digits k e = ltb-false 40 k (second (eqb k 0) (ltb 40 k) e)
-  where
-    second : (p q : Bool) → (p || q) ≡ false → q ≡ false
-    second true true e = e
-    second true false e = refl
-    second false q e = e
 
 -- ---- around the point
 module _ (s : List ℕ) (place : ℕ) (is : place ≡ before 46 46 s) (within : place ≤ length s) (behind : List ℕ) (rest : behind ≡ drop (place + 1) s) where

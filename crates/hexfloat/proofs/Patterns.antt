@@ -1,17 +1,17 @@
 -- A NaN's pattern in 16 digits. Assumes nothing.
-use mathlib.Core.Path.{_≡_, refl, sym, ap, _∙_}
+use mathlib.Core.Path.{_≡_, refl, sym, _∙_}
 use Prim.Native.Nat.{ℕ}
 use native.Mathlib.Nat.{le-of-eq}
 use mathlib.Core.Bool.{true, false}
 use mathlib.Core.List.{List}
 use lib.Dec.{lit≤}
 use lib.ListN.{length}
-use lib.Ieee.{binary64, ofBits, ne, nanBits}
+use lib.Ieee.{binary64, ofBits, ne}
 use lib.Ieee.Bits.{nanBits-is}
 use borrow.Author.Tests.{eq-eqb, ne-eqb}
 use Rattle.laws.specs.laws.Kinds.{differs-is}
 use Rattle.line.specs.declared.Number.the-variants.{Value, Not}
-use Rattle.line.specs.Line.{fewOf, spellOf, patternOf}
+use Rattle.line.specs.Line.{fewOf, patternOf}
 use Rattle.line.specs.laws.Few.{few}
 use Rattle.hexfloat.specs.Reading.{given, nanOf}
 

@@ -1,10 +1,10 @@
 -- What a field of the text says, for every string of bytes (02, [10]; C17, 7.22.1.3 and 6.4.4.2). Definitions only.
-use Prim.Native.Nat.{ℕ, _+_, _*_, _-_, _^_, _<_}
-use mathlib.Core.Bool.{Bool, true, false, cond, not, _&&_, _||_}
+use Prim.Native.Nat.{ℕ, _+_, _*_, _-_, _^_}
+use mathlib.Core.Bool.{Bool, true, false, cond, _&&_, _||_}
 use mathlib.Core.List.{List, [], _∷_, _++_}
 use lib.ListN.{length, take, drop, getD}
-use lib.Dec.{ltb, leb, eqb}
-use lib.Ieee.{Float, binary64, round, toBits, nanBits}
+use lib.Dec.{ltb, eqb}
+use lib.Ieee.{binary64, round, toBits, nanBits}
 use Rattle.laws.specs.Ascii.{ascii}
 use Rattle.laws.specs.Ladder.{when_gives_else_}
 use Rattle.line.specs.declared.Number.{Number}

@@ -1,6 +1,6 @@
 -- The one spelling of each bit pattern (02, [10]): an f64 as C's %a in glibc, inf and -inf, nan: and the pattern. Definitions only.
 use Prim.Native.Nat.{ℕ, zero, suc, _*_, _-_, _/_, _%_, _^_}
-use mathlib.Core.Bool.{Bool, not, _&&_}
+use mathlib.Core.Bool.{not, _&&_}
 use mathlib.Core.List.{List, [], _∷_, _++_}
 use lib.Dec.{ltb, leb, eqb}
 use Rattle.laws.specs.Ascii.{ascii}

@@ -6,7 +6,7 @@ use native.Mathlib.Omega.{arith}
 use mathlib.Core.Bool.{Bool, true, false, cond}
 use lib.Dec.{ltb, lit≤}
 use lib.Pow.{pow-add, pow-pos, pow-mono}
-use lib.Ieee.{binary64, round, low, prec, size, units}
+use lib.Ieee.{binary64, round, low, size, units}
 use lib.Ieee.Fits.{core, round-is}
 use lib.Ieee.Nearest.{closest, closest-mono}
 use lib.Ieee.Scale.{round-same}

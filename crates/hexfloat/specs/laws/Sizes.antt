@@ -25,6 +25,22 @@ not-value : {A : Type 0} {n : ℕ} → Not ≡ Value n → A
 unfolding numberIn
 not-value {A} {n} e = let k : 0 ≡ suc n = ap numberIn e in absurd (omega arith)
 
+-- ---- one to so many digits: what the test lets through
+pub at-most : (most k : ℕ) → (eqb k 0 || ltb most k) ≡ false → k ≤ most
+at-most most k e = ltb-false most k (second (eqb k 0) (ltb most k) e)
+  where
+    second : (p q : Bool) → (p || q) ≡ false → q ≡ false
+    second true true e = e
+    second true false e = refl
+    second false q e = e
+
+let-through : (most k : ℕ) (n : Number) (m : ℕ) → cond (eqb k 0 || ltb most k) Not n ≡ Value m → (k ≤ most) × (n ≡ Value m)
+let-through most k n m e = go (eqb k 0 || ltb most k) refl e
+  where
+    go : (t : Bool) → (eqb k 0 || ltb most k) ≡ t → cond t Not n ≡ Value m → (k ≤ most) × (n ≡ Value m)
+    go true b e = not-value e
+    go false b e = (at-most most k b, e)
+
 -- k digits of a base, whatever a digit is, after those that spelt n
 module _ (base : ℕ) (digit : ℕ → ℕ) (spell : ℕ → List ℕ → Number) (ends : (n : ℕ) → spell n [] ≡ Value n)
     (goes : (n x : ℕ) (xs : List ℕ) → spell n (x ∷ xs) ≡ cond (ltb (digit x) base) (spell (n * base + digit x) xs) Not) where
@@ -66,22 +82,13 @@ spell-ends n = refl
 
 pub power-lt : (s : List ℕ) (m : ℕ) → powerOf s ≡ Value m → m < 1000000
 unfolding powerOf
-power-lt s m e = go (eqb (length s) 0) (ltb 6 (length s)) refl e
-  where
-    go : (p q : Bool) → ltb 6 (length s) ≡ q → cond (p || q) Not (spellOf 10 0 s) ≡ Value m → m < 1000000
-    go true q b e = not-value e
-    go false true b e = not-value e
-    go false false b e =
-        lt-of-lt-of-le (spelt-lt 10 digitOf (spellOf 10) spell-ends spell-goes 0 s m e) (le-trans (le-of-eq (one-mul (10 ^ length s))) (le-trans (pow-le-pow-right (lit≤ tt) (ltb-false 6 (length s) b)) (lit≤ tt)))
+power-lt s m e =
+    let k = let-through 6 (length s) (spellOf 10 0 s) m e in
+    lt-of-lt-of-le (spelt-lt 10 digitOf (spellOf 10) spell-ends spell-goes 0 s m (k .1)) (le-trans (le-of-eq (one-mul (10 ^ length s))) (le-trans (pow-le-pow-right (lit≤ tt) (k .0)) (lit≤ tt)))
 
 pub mantissa-lt : (s : List ℕ) (m : ℕ) → mantissaOf s ≡ Value m → m < 2 ^ 160
 unfolding mantissaOf
-mantissa-lt s m e = go (take (before 46 46 s) s ++ drop (before 46 46 s + 1) s) e
-  where
-    go : (all : List ℕ) → cond (eqb (length all) 0 || ltb 40 (length all)) Not (hexOf 0 all) ≡ Value m → m < 2 ^ 160
-    go all e = by-test (eqb (length all) 0) (ltb 40 (length all)) refl e
-      where
-        by-test : (p q : Bool) → ltb 40 (length all) ≡ q → cond (p || q) Not (hexOf 0 all) ≡ Value m → m < 2 ^ 160
-        by-test true q b e = not-value e
-        by-test false true b e = not-value e
-        by-test false false b e = hex-lt all m (ltb-false 40 (length all) b) e
+mantissa-lt s m e =
+    let all = take (before 46 46 s) s ++ drop (before 46 46 s + 1) s in
+    let k = let-through 40 (length all) (hexOf 0 all) m e in
+    hex-lt all m (k .0) (k .1)

@@ -1,10 +1,8 @@
-use borrow.Author.Needs.{needs}
 -- A part up to the end is what is left.
+use borrow.Author.Needs.{needs}
 use Rattle.hexfloat.proofs.Parts.{rest-part, nothing-left}
 use Rattle.hexfloat.proofs.bytes.after.Statement.{statement}
 use Rattle.hexfloat.proofs.bytes.after.Tie as tie
-use Rattle.hexfloat.proofs.bytes.after.Reads as reads
-use Rattle.hexfloat.proofs.bytes.after.Lts as lts
 
 sub-result : tie.Need-sub-result
 sub-result c = search needs

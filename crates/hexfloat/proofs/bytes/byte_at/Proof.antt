@@ -1,11 +1,9 @@
-use borrow.Author.Needs.{needs}
 -- Past the end there is none.
+use borrow.Author.Needs.{needs}
 use mathlib.Core.Path.{sym}
 use lib.ListN.{List·getD-eq-default}
 use Rattle.hexfloat.proofs.bytes.byte_at.Statement.{statement}
 use Rattle.hexfloat.proofs.bytes.byte_at.Tie as tie
-use Rattle.hexfloat.proofs.bytes.byte_at.Reads as reads
-use Rattle.hexfloat.proofs.bytes.byte_at.Lts as lts
 
 shared-slice-read-result : tie.Need-shared-slice-read-result
 shared-slice-read-result c = search needs

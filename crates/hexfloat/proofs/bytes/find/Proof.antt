@@ -7,8 +7,6 @@ use Rattle.hexfloat.specs.Reading.{before}
 use Rattle.hexfloat.proofs.Parts.{found, goes-on, not-found}
 use Rattle.hexfloat.proofs.bytes.find.Statement.{statement}
 use Rattle.hexfloat.proofs.bytes.find.Tie as tie
-use Rattle.hexfloat.proofs.bytes.find.Reads as reads
-use Rattle.hexfloat.proofs.bytes.find.Lts as lts
 
 abbrev Inv-loop : tie.InvT-loop
 Inv-loop s a b i₀ i = (i + before a b (drop i s) ≡ before a b s) × (i ≤ length s)

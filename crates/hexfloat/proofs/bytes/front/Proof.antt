@@ -5,8 +5,6 @@ use lib.Seq.{take-all}
 use borrow.Author.Needs.{needs}
 use Rattle.hexfloat.proofs.bytes.front.Statement.{statement}
 use Rattle.hexfloat.proofs.bytes.front.Tie as tie
-use Rattle.hexfloat.proofs.bytes.front.Reads as reads
-use Rattle.hexfloat.proofs.bytes.front.Lts as lts
 
 sub-result : tie.Need-sub-result
 sub-result c = search needs

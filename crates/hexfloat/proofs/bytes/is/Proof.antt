@@ -7,8 +7,6 @@ use Rattle.hexfloat.specs.Reading.{same}
 use Rattle.hexfloat.proofs.Parts.{other-length, differ, agree, all-agree}
 use Rattle.hexfloat.proofs.bytes.is.Statement.{statement}
 use Rattle.hexfloat.proofs.bytes.is.Tie as tie
-use Rattle.hexfloat.proofs.bytes.is.Reads as reads
-use Rattle.hexfloat.proofs.bytes.is.Lts as lts
 
 abbrev Inv-loop : tie.InvT-loop
 Inv-loop s text i₀ i = (same (drop i s) (drop i text) ≡ same s text) × (i ≤ length s)

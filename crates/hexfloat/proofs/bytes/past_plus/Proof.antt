@@ -4,10 +4,6 @@ use borrow.Author.Tests.{eq-eqb, ne-eqb}
 use borrow.Author.Needs.{needs}
 use Rattle.hexfloat.proofs.bytes.past_plus.Statement.{statement}
 use Rattle.hexfloat.proofs.bytes.past_plus.Tie as tie
-use Rattle.hexfloat.proofs.bytes.past_plus.Reads as reads
-use Rattle.hexfloat.proofs.bytes.past_plus.Lts as lts
-use Rattle.hexfloat.proofs.bytes.after.Reads as after-reads
-use Rattle.hexfloat.proofs.bytes.byte_at.Reads as byte-at-reads
 
 byte-at-requires : tie.Need-byte-at-requires
 byte-at-requires c κs = search needs

@@ -1,18 +1,14 @@
-use borrow.Author.Needs.{needs}
 -- An upper-case digit, or what `line` says.
-use mathlib.Core.Path.{refl}
+use borrow.Author.Needs.{needs}
+use mathlib.Core.Path.{refl, _≡_}
 use native.Mathlib.Omega.{arith}
 use Prim.Native.Nat.{ℕ, _<_}
-use mathlib.Core.Path.{_≡_}
 use mathlib.Core.Bool.{Bool, true, false, _&&_}
 use lib.Dec.{ltb}
 use borrow.Author.Tests.{ltb-true}
 use Rattle.hexfloat.specs.Reading.{hexDigitOf}
 use Rattle.hexfloat.proofs.digits.hex_digit.Statement.{statement}
 use Rattle.hexfloat.proofs.digits.hex_digit.Tie as tie
-use Rattle.hexfloat.proofs.digits.hex_digit.Reads as reads
-use Rattle.hexfloat.proofs.digits.hex_digit.Lts as lts
-use Rattle.line.proofs.digit.Reads as digit-reads
 
 upper : (b : ℕ) → (ltb 64 b && ltb b 71) ≡ true → 64 < b
 upper b e = ltb-true 64 b (first (ltb 64 b) (ltb b 71) e)

@@ -5,9 +5,6 @@ use Rattle.hexfloat.specs.Steps.{scaledOf}
 use borrow.Author.Needs.{needs}
 use Rattle.hexfloat.proofs.digits.scaled.Statement.{statement}
 use Rattle.hexfloat.proofs.digits.scaled.Tie as tie
-use Rattle.hexfloat.proofs.digits.scaled.Reads as reads
-use Rattle.hexfloat.proofs.digits.scaled.Lts as lts
-use Rattle.bits.proofs.rounded.Reads as rounded-reads
 
 add-if1 : tie.Need-add-if1
 add-if1 c = search needs

@@ -10,11 +10,6 @@ use Rattle.hexfloat.specs.laws.Holding.{dropped-more}
 use Rattle.hexfloat.proofs.Holding.{no-digit, one-more, no-more}
 use Rattle.hexfloat.proofs.digits.take_digits.Statement.{statement}
 use Rattle.hexfloat.proofs.digits.take_digits.Tie as tie
-use Rattle.hexfloat.proofs.digits.take_digits.Reads as reads
-use Rattle.hexfloat.proofs.digits.take_digits.Lts as lts
-use Rattle.hexfloat.proofs.digits.hex_digit.Reads as hex-digit-reads
-use Rattle.hexfloat.proofs.digits.no_digits.Reads as no-digits-reads
-use Rattle.hexfloat.proofs.digits.with_digit.Reads as with-digit-reads
 
 abbrev Inv-loop : tie.InvT-loop
 Inv-loop s h₀ i₀ h i = (heldFrom h (drop i s) ≡ heldFrom h₀ s) × (i ≤ length s) × (h .dropped ≤ h₀ .dropped + i)

@@ -1,12 +1,10 @@
-use borrow.Author.Needs.{needs}
 -- The test of the code is the definition's.
+use borrow.Author.Needs.{needs}
 use mathlib.Core.Path.{refl}
 use borrow.Author.Tests.{lt-ltb, le-ltb}
 use Rattle.hexfloat.specs.Steps.{withDigit}
 use Rattle.hexfloat.proofs.digits.with_digit.Statement.{statement}
 use Rattle.hexfloat.proofs.digits.with_digit.Tie as tie
-use Rattle.hexfloat.proofs.digits.with_digit.Reads as reads
-use Rattle.hexfloat.proofs.digits.with_digit.Lts as lts
 
 mul-t4 : tie.Need-mul-t4
 mul-t4 c = search needs

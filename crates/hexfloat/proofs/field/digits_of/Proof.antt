@@ -1,5 +1,5 @@
 -- No digit, too many, or those before the point and those behind it.
-use mathlib.Core.Path.{_≡_, refl, sym, ap, _∙_}
+use mathlib.Core.Path.{refl, sym, ap, _∙_}
 use Prim.Native.Nat.{_+_, _≤_}
 use native.Mathlib.Nat.{sub-zero}
 use native.Mathlib.Omega.{arith}
@@ -8,16 +8,11 @@ use lib.ListN.{length, take}
 use Rattle.hexfloat.specs.declared.digits.Held.{Held}
 use Rattle.hexfloat.specs.Steps.{noDigits, heldFrom, Leads}
 use Rattle.hexfloat.specs.laws.Holding.{leads-both, dropped-most}
-use Rattle.hexfloat.proofs.Mantissas.{few-digits, front-length, no-mantissa, mantissa-is, behind-is}
+use Rattle.hexfloat.specs.laws.Sizes.{at-most}
+use Rattle.hexfloat.proofs.Mantissas.{front-length, no-mantissa, mantissa-is, behind-is}
 use borrow.Author.Needs.{needs}
 use Rattle.hexfloat.proofs.field.digits_of.Statement.{statement}
 use Rattle.hexfloat.proofs.field.digits_of.Tie as tie
-use Rattle.hexfloat.proofs.field.digits_of.Reads as reads
-use Rattle.hexfloat.proofs.field.digits_of.Lts as lts
-use Rattle.hexfloat.proofs.bytes.after.Reads as after-reads
-use Rattle.hexfloat.proofs.bytes.find.Reads as find-reads
-use Rattle.hexfloat.proofs.digits.no_digits.Reads as no-digits-reads
-use Rattle.hexfloat.proofs.digits.take_digits.Reads as take-digits-reads
 
 find-requires : tie.Need-find-requires
 find-requires c κs = search needs
@@ -58,14 +53,14 @@ take-digits-requires : tie.Need-take-digits-requires
 take-digits-requires c κs =
     let s = c .before .before .before .before .before .before .args .s .now in
     let p = c .before .before .before .before .find .ensures in
-    let k : c .before .before .before .before .find .result + length (c .before .before .before .after .result .now) ≤ 40 = few-digits _ (c .before .before .if1 .left) in
+    let k : c .before .before .before .before .find .result + length (c .before .before .before .after .result .now) ≤ 40 = at-most 40 _ (c .before .before .if1 .left) in
     rw (c .no-digits2 .ensures, sub-zero, front-length s _ (p .0) (p .1) _ (c .before .before .before .after .ensures)) (omega arith)
 
 take-digits-requires-2 : tie.Need-take-digits-requires-2
 take-digits-requires-2 c κs =
     let s = c .before .before .before .before .before .before .before .args .s .now in
     let p = c .before .before .before .before .before .find .ensures in
-    let k : c .before .before .before .before .before .find .result + length (c .before .before .before .before .after .result .now) ≤ 40 = few-digits _ (c .before .before .before .if1 .left) in
+    let k : c .before .before .before .before .before .find .result + length (c .before .before .before .before .after .result .now) ≤ 40 = at-most 40 _ (c .before .before .before .if1 .left) in
     let d = rw (c .before .no-digits2 .ensures, sub-zero) at (c .take-digits .ensures) in
     let m = dropped-most (noDigits true) (take (c .before .before .before .before .before .find .result) s) in
     let l = front-length s _ (p .0) (p .1) _ (c .before .before .before .before .after .ensures) in
@@ -77,7 +72,7 @@ returns-2 c =
     let p = c .before .before .before .before .before .before .find .ensures in
     let a = c .before .before .before .before .before .after in
     let e = c .before .before .before .before .if1 .left in
-    let k : c .before .before .before .before .before .before .find .result + length (a .result .now) ≤ 40 = few-digits _ e in
+    let k : c .before .before .before .before .before .before .find .result + length (a .result .now) ≤ 40 = at-most 40 _ e in
     let d = c .take-digits2 .ensures ∙ ap (λ (h : Held). heldFrom h (a .result .now)) (rw (c .before .before .no-digits2 .ensures, sub-zero) at (c .before .take-digits .ensures)) in
     let front = take (c .before .before .before .before .before .before .find .result) s in
     let m = dropped-most (noDigits true) front in

@@ -15,14 +15,6 @@ use Rattle.hexfloat.proofs.Mantissas.{float-none, float-power, float-pl
 use borrow.Author.Needs.{needs}
 use Rattle.hexfloat.proofs.field.float.Statement.{statement}
 use Rattle.hexfloat.proofs.field.float.Tie as tie
-use Rattle.hexfloat.proofs.field.float.Reads as reads
-use Rattle.hexfloat.proofs.field.float.Lts as lts
-use Rattle.bits.proofs.to_pattern.Reads as to-pattern-reads
-use Rattle.hexfloat.proofs.bytes.after.Reads as after-reads
-use Rattle.hexfloat.proofs.bytes.find.Reads as find-reads
-use Rattle.hexfloat.proofs.digits.scaled.Reads as scaled-reads
-use Rattle.hexfloat.proofs.field.digits_of.Reads as digits-of-reads
-use Rattle.hexfloat.proofs.field.with_exponent.Reads as with-exponent-reads
 
 find-requires : tie.Need-find-requires
 find-requires c κs = search needs

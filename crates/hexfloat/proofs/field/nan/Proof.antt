@@ -4,10 +4,6 @@ use Rattle.hexfloat.proofs.Patterns.{no-pattern, nan-read, nan-none, no
 use borrow.Author.Needs.{needs}
 use Rattle.hexfloat.proofs.field.nan.Statement.{statement}
 use Rattle.hexfloat.proofs.field.nan.Tie as tie
-use Rattle.hexfloat.proofs.field.nan.Reads as reads
-use Rattle.hexfloat.proofs.field.nan.Lts as lts
-use Rattle.bits.proofs.from_pattern.Reads as from-pattern-reads
-use Rattle.line.proofs.read_digits.Reads as read-digits-reads
 
 returns : tie.Need-returns
 returns c = no-pattern (c .before .before .args .s .now) (c .if1 .taken)

@@ -5,11 +5,6 @@ use Rattle.hexfloat.specs.Reading.{floatOf, prefixedOf}
 use borrow.Author.Needs.{needs}
 use Rattle.hexfloat.proofs.field.prefixed.Statement.{statement}
 use Rattle.hexfloat.proofs.field.prefixed.Tie as tie
-use Rattle.hexfloat.proofs.field.prefixed.Reads as reads
-use Rattle.hexfloat.proofs.field.prefixed.Lts as lts
-use Rattle.hexfloat.proofs.bytes.after.Reads as after-reads
-use Rattle.hexfloat.proofs.bytes.byte_at.Reads as byte-at-reads
-use Rattle.hexfloat.proofs.field.float.Reads as float-reads
 
 byte-at-requires : tie.Need-byte-at-requires
 byte-at-requires c κs = search needs

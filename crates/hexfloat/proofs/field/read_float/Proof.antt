@@ -8,15 +8,6 @@ use Rattle.hexfloat.specs.Reading.{same, prefixedOf, nanOf, readOf}
 use borrow.Author.Needs.{needs}
 use Rattle.hexfloat.proofs.field.read_float.Statement.{statement}
 use Rattle.hexfloat.proofs.field.read_float.Tie as tie
-use Rattle.hexfloat.proofs.field.read_float.Reads as reads
-use Rattle.hexfloat.proofs.field.read_float.Lts as lts
-use Rattle.hexfloat.proofs.bytes.after.Reads as after-reads
-use Rattle.hexfloat.proofs.bytes.byte_at.Reads as byte-at-reads
-use Rattle.hexfloat.proofs.bytes.front.Reads as front-reads
-use Rattle.hexfloat.proofs.bytes.is.Reads as is-reads
-use Rattle.hexfloat.proofs.bytes.past_plus.Reads as past-plus-reads
-use Rattle.hexfloat.proofs.field.nan.Reads as nan-reads
-use Rattle.hexfloat.proofs.field.prefixed.Reads as prefixed-reads
 
 slice-aggregate-is : tie.Need-slice-aggregate-is
 slice-aggregate-is c = search needs

@@ -7,14 +7,6 @@ use Rattle.hexfloat.proofs.Exponents.{pattern-up, pattern-down, minus-n
 use borrow.Author.Needs.{needs}
 use Rattle.hexfloat.proofs.field.with_exponent.Statement.{statement}
 use Rattle.hexfloat.proofs.field.with_exponent.Tie as tie
-use Rattle.hexfloat.proofs.field.with_exponent.Reads as reads
-use Rattle.hexfloat.proofs.field.with_exponent.Lts as lts
-use Rattle.bits.proofs.to_pattern.Reads as to-pattern-reads
-use Rattle.hexfloat.proofs.bytes.after.Reads as after-reads
-use Rattle.hexfloat.proofs.bytes.byte_at.Reads as byte-at-reads
-use Rattle.hexfloat.proofs.bytes.past_plus.Reads as past-plus-reads
-use Rattle.hexfloat.proofs.digits.scaled.Reads as scaled-reads
-use Rattle.hexfloat.proofs.field.power.Reads as power-reads
 
 byte-at-requires : tie.Need-byte-at-requires
 byte-at-requires c κs = search needs

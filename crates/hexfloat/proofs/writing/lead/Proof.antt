@@ -4,8 +4,6 @@ use borrow.Author.Tests.{eq-eqb, ne-eqb}
 use Rattle.hexfloat.specs.Spelled.{leadOf}
 use Rattle.hexfloat.proofs.writing.lead.Statement.{statement}
 use Rattle.hexfloat.proofs.writing.lead.Tie as tie
-use Rattle.hexfloat.proofs.writing.lead.Reads as reads
-use Rattle.hexfloat.proofs.writing.lead.Lts as lts
 
 returns : tie.Need-returns
 unfolding leadOf

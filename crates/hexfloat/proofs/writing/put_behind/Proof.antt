@@ -7,10 +7,6 @@ use Rattle.hexfloat.specs.Spelled.{digitsText, behindText}
 use borrow.Author.Needs.{needs}
 use Rattle.hexfloat.proofs.writing.put_behind.Statement.{statement}
 use Rattle.hexfloat.proofs.writing.put_behind.Tie as tie
-use Rattle.hexfloat.proofs.writing.put_behind.Reads as reads
-use Rattle.hexfloat.proofs.writing.put_behind.Lts as lts
-use Rattle.hexfloat.proofs.writing.put_digits.Reads as put-digits-reads
-use Rattle.text.proofs.put_bytes.Reads as put-bytes-reads
 
 returns : tie.Need-returns
 unfolding behindText

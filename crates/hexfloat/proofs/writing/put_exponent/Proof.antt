@@ -5,9 +5,6 @@ use Rattle.hexfloat.specs.Spelled.{exponentText}
 use borrow.Author.Needs.{needs}
 use Rattle.hexfloat.proofs.writing.put_exponent.Statement.{statement}
 use Rattle.hexfloat.proofs.writing.put_exponent.Tie as tie
-use Rattle.hexfloat.proofs.writing.put_exponent.Reads as reads
-use Rattle.hexfloat.proofs.writing.put_exponent.Lts as lts
-use Rattle.hexfloat.proofs.writing.put_power.Reads as put-power-reads
 
 put-power-requires : tie.Need-put-power-requires
 put-power-requires c κs = search needs

@@ -11,13 +11,6 @@ use Rattle.hexfloat.specs.Spelled.{fieldOf, fractionOf, signText, sizeTe
 use borrow.Author.Needs.{needs}
 use Rattle.hexfloat.proofs.writing.put_float.Statement.{statement}
 use Rattle.hexfloat.proofs.writing.put_float.Tie as tie
-use Rattle.hexfloat.proofs.writing.put_float.Reads as reads
-use Rattle.hexfloat.proofs.writing.put_float.Lts as lts
-use Rattle.hexfloat.proofs.writing.put_sign.Reads as put-sign-reads
-use Rattle.hexfloat.proofs.writing.put_size.Reads as put-size-reads
-use Rattle.text.proofs.lacks.Reads as lacks-reads
-use Rattle.text.proofs.put_bytes.Reads as put-bytes-reads
-use Rattle.text.proofs.put_pattern.Reads as put-pattern-reads
 
 lacks-requires : tie.Need-lacks-requires
 lacks-requires c κs = search needs

@@ -7,10 +7,6 @@ use Rattle.text.specs.laws.Writing.{placed-both}
 use borrow.Author.Needs.{needs}
 use Rattle.hexfloat.proofs.writing.put_power.Statement.{statement}
 use Rattle.hexfloat.proofs.writing.put_power.Tie as tie
-use Rattle.hexfloat.proofs.writing.put_power.Reads as reads
-use Rattle.hexfloat.proofs.writing.put_power.Lts as lts
-use Rattle.text.proofs.put_bytes.Reads as put-bytes-reads
-use Rattle.text.proofs.put_decimal.Reads as put-decimal-reads
 
 slice-aggregate-put-bytes : tie.Need-slice-aggregate-put-bytes
 slice-aggregate-put-bytes c = search needs

@@ -6,9 +6,6 @@ use Rattle.hexfloat.specs.Spelled.{signText}
 use borrow.Author.Needs.{needs}
 use Rattle.hexfloat.proofs.writing.put_sign.Statement.{statement}
 use Rattle.hexfloat.proofs.writing.put_sign.Tie as tie
-use Rattle.hexfloat.proofs.writing.put_sign.Reads as reads
-use Rattle.hexfloat.proofs.writing.put_sign.Lts as lts
-use Rattle.text.proofs.put_bytes.Reads as put-bytes-reads
 
 slice-aggregate-put-bytes : tie.Need-slice-aggregate-put-bytes
 slice-aggregate-put-bytes c = search needs

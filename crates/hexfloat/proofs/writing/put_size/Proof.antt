@@ -1,21 +1,12 @@
 -- An infinity, or 0x, a digit, those behind the point, and the exponent.
-use mathlib.Core.Path.{ap}
-use Prim.Native.Nat.{ℕ}
 use native.Mathlib.Omega.{arith}
-use mathlib.Core.List.{List, [], _∷_, _++_, append-assoc}
+use mathlib.Core.List.{[], _∷_, _++_, append-assoc}
 use borrow.Author.Tests.{eq-eqb, ne-eqb}
-use Rattle.text.specs.Writing.{Put}
 use Rattle.text.specs.laws.Writing.{put-both}
 use Rattle.hexfloat.specs.Spelled.{leadOf, behindText, exponentText, sizeText}
 use borrow.Author.Needs.{needs}
 use Rattle.hexfloat.proofs.writing.put_size.Statement.{statement}
 use Rattle.hexfloat.proofs.writing.put_size.Tie as tie
-use Rattle.hexfloat.proofs.writing.put_size.Reads as reads
-use Rattle.hexfloat.proofs.writing.put_size.Lts as lts
-use Rattle.hexfloat.proofs.writing.lead.Reads as lead-reads
-use Rattle.hexfloat.proofs.writing.put_behind.Reads as put-behind-reads
-use Rattle.hexfloat.proofs.writing.put_exponent.Reads as put-exponent-reads
-use Rattle.text.proofs.put_bytes.Reads as put-bytes-reads
 
 slice-aggregate-put-bytes : tie.Need-slice-aggregate-put-bytes
 slice-aggregate-put-bytes c = search needs

@@ -1,21 +1,13 @@
 #!/usr/bin/env python3
 """oracle/unused.py: what README's first command would prove and legsheet does not use.
-Of the crates that legsheet stands on it looks at every function (is it called, from main on?) and at every file of laws (does a proof use it, or a law that one uses?). What is left must be just
-what KEPT names, each with its reason; anything else, or a name in KEPT that is used or gone, ends it with 1. It goes by names, so it may take a function for used that is not."""
+Of the crates that legsheet stands on it looks at every function (is it called, from main on?), and at every definition and law (does a function's contract or proof come to it, or a law that
+says what legsheet promises?). Anything else ends it with 1. It goes by names, so it may take something for used that is not."""
 import collections, os, re, sys
 
 ROOT = os.path.join(os.path.dirname(os.path.abspath(__file__)), '..')
 PROGRAM = 'legsheet'
-KEPT = {
-    'whole::trunc': '01, module 1: one family with `round`',
-    'whole::floor': '01, module 1: one family with `round`',
-    'whole::lower': 'for `trunc` and `floor`',
-    'whole::upper': 'for `floor`',
-    'angle::cosine': '01, module 2: one family with `sine`, of which `sine_cosine` is made',
-    'sheet::clear': "01, the sheet's calls: beside `edit`",
-    'files::open': 'every call of C stands in `files`',
-    'runner::run_on': 'what it shares with `run` asks for evidence, which no public function does',
-}
+# What the whole program writes and saves, from the bytes that it reads: legsheet's own promise, which no code cites.
+PROMISED = {('runner', 'specs.laws.Law'), ('runner', 'specs.laws.Whole')}
 
 
 def stands_on():
@@ -91,34 +83,93 @@ def unused_functions(crates):
     return {f'{crate}::{name}' for crate, name in found.keys() - seen}
 
 
+def definitions(text):
+    """name of each definition of a file, in modules too -> the words that its lines have; a constructor stands for its type."""
+    found, inner, depth, now = collections.defaultdict(set), {}, 0, None
+    for line in text.split('\n'):
+        line = re.sub(r'(^|\s)--.*', '', line)
+        if not line.strip() or re.match(r'(pub )?(use|mod) ', line):
+            continue
+        indent = len(line) - len(line.lstrip())
+        depth = min(depth, indent // 2)
+        if indent == 2 * depth:
+            words = re.sub(r'^((unfoldable|abbrev|pub|private|macro) )+', '', line.strip())
+            if words.startswith('module '):
+                depth += 1
+                continue
+            m = re.match(r'(record |data )?([^\s(){};,]+)', words)
+            if words.startswith('unfolding ') and now:
+                pass
+            elif m and (m[1] or re.match(r'[^\s(){};,]+ : ', words)):
+                now = m[2]
+                found[now]
+            elif m and m[2] in found:
+                now = m[2]
+            kind = now if m and m[1] else None
+        elif indent == 2 * depth + 2 and kind:
+            m = re.match(r'(?:pub )?([^\s(){};,]+) : ', line.strip())
+            if m:
+                inner[m[1]] = kind
+        if now:
+            found[now] |= set(re.findall(r'[^\s(){};,.]+', line))
+    return found, inner
+
+
+USE = re.compile(r'^(?:pub |ghost )?use Rattle·(\w+?)(?:·specs|·proofs)?\.((?:specs|proofs)\.[^\s{;]+?)(?:\.\{(.*)\}| as (\S+?))?;?$', re.M)
+
+
 def unused_laws(crates):
-    cites = {}
+    """crate/file.name of each law and definition that no proof and no contract of these crates comes to, from the functions' proofs and what PROMISED names on."""
+    files_of, names, todo = {}, {}, []
     for crate in crates:
-        for folder in ('specs', 'proofs'):
-            for path, text in files(crate, folder, '.antt'):
-                inside = os.path.relpath(path, os.path.join(ROOT, 'crates', crate))[:-len('.antt')].split(os.sep)
-                used = set()
-                for m in re.finditer(r'^use Rattle·(\w+?)(?:·specs|·proofs)?\.((?:specs|proofs)\.[^\s{]+)', text, re.M):
-                    used.add((m[1], m[2].rstrip('.').replace('«', '').replace('»', '')))
-                cites[crate, '.'.join(inside)] = used
-    seen, todo = set(), [k for k in cites if '.laws.' not in k[1] and not k[1].endswith('.laws')]
+        for folder, ending in (('specs', '.antt'), ('proofs', '.antt'), ('src', '.rt')):
+            for path, text in files(crate, folder, ending):
+                inside = '.'.join(os.path.relpath(path, os.path.join(ROOT, 'crates', crate))[:-len(ending)].split(os.sep))
+                named, whole = {}, {}
+                for m in USE.finditer(text):
+                    place = m[1], m[2].replace('«', '').replace('»', '')
+                    for name in (m[3] or '').split(','):
+                        old, _, new = name.strip().partition(' as ')
+                        named[new or old] = place, old
+                    if m[4]:
+                        whole[m[4]] = place
+                if ending == '.rt':
+                    todo += [(place, name) for place, name in named.values()]
+                    continue
+                names[crate, inside] = named, whole
+                files_of[crate, inside] = definitions(text)
+    for place, (found, _) in files_of.items():
+        if place[1].endswith('.Proof') or place in PROMISED:
+            todo += [(place, name) for name in found]
+    seen = set()
     while todo:
-        key = todo.pop()
-        if key not in seen and key in cites:
-            seen.add(key)
-            todo += cites[key]
-    return {f"{crate}/{name.replace('.', '/')}" for crate, name in cites.keys() - seen if '.laws.' in name}
+        place, name = todo.pop()
+        if place not in files_of:
+            continue
+        found, inner = files_of[place]
+        name = inner.get(name, name) if name not in found else name
+        if name not in found or (place, name) in seen:
+            continue
+        seen.add((place, name))
+        named, whole = names[place]
+        words = found[name]
+        words = words | {n for n in (*found, *named) if '_' in n and set(n.split('_')) - {''} <= words}
+        for word in words:
+            todo.append((place, word))
+            if word in named:
+                todo.append(named[word])
+            if word in whole:
+                todo += [(whole[word], other) for other in words]
+    return {f"{crate}/{inside.replace('.', '/')}.{name}" for (crate, inside), (found, _) in files_of.items() for name in found if ((crate, inside), name) not in seen}
 
 
 def main():
     crates = stands_on()
     left = unused_functions(crates) | unused_laws(crates)
-    for name in sorted(left - KEPT.keys()):
-        print(f'{name}: in a crate that {PROGRAM} stands on, and it does not use it')
-    for name in sorted(KEPT.keys() - left):
-        print(f'{name}: named as unused by {PROGRAM}, and it is used or gone')
-    print(f'{PROGRAM} stands on {len(crates)} crates; what it does not use of them: {len(left)}, of which {len(left - KEPT.keys())} without a reason')
-    sys.exit(left != KEPT.keys())
+    for name in sorted(left):
+        print(f'{name}: in a crate that {PROGRAM} stands on, and it does not use it; put it where it is used')
+    print(f'{PROGRAM} stands on {len(crates)} crates; what it does not use of them: {len(left)}')
+    sys.exit(1 if left else 0)
 
 
 main()

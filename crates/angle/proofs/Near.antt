@@ -21,7 +21,7 @@ use Rattle.angle.specs.Series.{taylor, UpToFour, SineWithin, CosineWithi
 use Rattle.bounds.specs.Close.{distanceOf, Close}
 use Rattle.angle.specs.Alternating.{squareOf, alternatingOf, upToFour}
 use Rattle.angle.specs.Sine.{sineAt, sineOf}
-use Rattle.angle.specs.Cosine.{cosineAt, cosineOf}
+use Rattle.angle.specs.Cosine.{cosineBy, cosineAt, cosineOf}
 use Rattle.bounds.specs.laws.Held.{Held}
 use Rattle.bounds.specs.laws.Rounds.{in-range, closes, stays, plainly}
 use Rattle.angle.proofs.Angles.{Holds, sine-holds, sine-size, tiny-square, cosine-holds, cosine-size}
@@ -118,7 +118,7 @@ module _ (p q : ℕ) (hq : 0 < q) (hp : p ≤ 4 * q) (s : Bool) where
   cosine-most = le-trans (K .gap) (lit≤ tt)
 
   cosine-close : (k d : ℕ) → k * 2 ^ d ≡ 2 ^ 60 → 256 ≤ k → Close (1 over 2 ^ d) (taylor p q 0 22) false (cosineAt s p q)
-  unfolding cosineAt C D
+  unfolding cosineBy cosineAt C D
   cosine-close k d e l =
       subst (Close (1 over 2 ^ d) (taylor p q 0 22) false) (plainly (2 ^ 60) C D)
       (closes false 1 1 (2 ^ 60) C D 123 125 129 (pow-pos 60) (taylor p q 0 22) (K .added) (K .taken) (cosine-size p q hq hp) cosine-most
@@ -128,7 +128,7 @@ module _ (p q : ℕ) (hq : 0 < q) (hp : p ≤ 4 * q) (s : Bool) where
       unit D P h = record { low = (omega arith); high = (omega arith) }
 
   cosine-le : (t : Bool) (n : ℕ) (g : ℤ) → cosineAt s p q ≡ fin t n g → AtMost (n * up g over down g) (1 over 1)
-  unfolding cosineAt C D
+  unfolding cosineBy cosineAt C D
   cosine-le t n g e =
       stays false 1 1 (2 ^ 60) C D 123 125 129 (pow-pos 60) (taylor p q 0 22) (K .added) (K .taken) (cosine-size p q hq hp) cosine-most
       (in-range false 1 1 (2 ^ 60) C D 123 125 129 (pow-pos 60) (taylor p q 0 22) (K .added) (K .taken) (cosine-size p q hq hp) cosine-most 1 (lit≤ tt) (lit≤ tt))

@@ -1,8 +1,8 @@
 -- From what the code of sine and cosine tests and calls to their definitions. Assumes nothing.
 use mathlib.Core.Path.{_≡_, refl, sym, ap, ap₂, _∙_, subst}
 use mathlib.Core.Bool.{Bool, true, false, not, cond, _||_, true≢false}
-use Prim.Native.Nat.{ℕ, zero, suc, _+_, _-_, _*_, _/_, _^_, _≤_, _<_, zero-le}
-use native.Mathlib.Nat.{mul-add, add-mul, mul-assoc, mul-comm, mul-left-comm, mul-one, add-zero, mul-pos, le-trans, le-of-eq, lt-of-le-of-lt, zero-lt-suc, mul-le-mul-right, le-of-mul-le-mul-right, lt-irrefl}
+use Prim.Native.Nat.{ℕ, zero, suc, _+_, _-_, _*_, _/_, _^_, _≤_, _<_, zero-le, min}
+use native.Mathlib.Nat.{mul-add, add-mul, mul-assoc, mul-comm, mul-left-comm, mul-one, add-zero, mul-pos, le-trans, le-of-eq, lt-of-le-of-lt, zero-lt-suc, mul-le-mul-right, le-of-mul-le-mul-right, lt-irrefl, min-eq-left}
 use native.Mathlib.Omega.{arith}
 use lib.IntN.{ℤ, pos}
 use lib.Dec.{T, ltb, ltb→lt, nltb→le, lit<}
@@ -22,7 +22,7 @@ use Rattle.answer.specs.declared.Answer.the-variants.{One, Refused}
 use Rattle.bounds.specs.Close.{distanceOf}
 use Rattle.angle.specs.Alternating.{squareOf, alternatingOf, upToFour, Viewed}
 use Rattle.angle.specs.Sine.{sineAt, sineOf}
-use Rattle.angle.specs.Cosine.{cosineAt, cosineOf}
+use Rattle.angle.specs.Cosine.{cosineBy, cosineAt, cosineOf}
 use Rattle.angle.specs.declared.series.Balance.{Balance}
 use Rattle.angle.proofs.Angles.{square-le}
 
@@ -160,8 +160,7 @@ sine-same s p q a c Q C e =
 
 cosine-same : (s : Bool) (p q a c : ℕ) → 0 < q → 0 < c → p * c ≡ a * q → cosineAt s p q ≡ cosineAt s a c
 unfolding cosineAt
-cosine-same s p q a c Q C e =
-    ap (λ (t : ℕ). round binary64 (ltb (alternatingOf t 0 21 .added) (alternatingOf t 0 21 .taken)) (distanceOf (alternatingOf t 0 21 .added) (alternatingOf t 0 21 .taken)) (2 ^ 60)) (square-same p q a c Q C e)
+cosine-same s p q a c Q C e = ap cosineBy (square-same p q a c Q C e)
 
 -- ---- what a view that does not refuse leads to
 module _ {x : Float} {refusal : ℕ} {negative : Bool} {digits exponent square : ℕ} (view : Viewed x refusal negative digits exponent square) (h : refusal ≤ 0) where
@@ -183,13 +182,10 @@ module _ {x : Float} {refusal : ℕ} {negative : Bool} {digits exponent square :
       at : Balance → Float
       at c = round binary64 (unlike negative (ltb (c .added) (c .taken))) (digits * 2 ^ exponent * distanceOf (c .added) (c .taken)) (2 ^ 1074 * 2 ^ 60)
 
-  pub is-cosine : {b : Balance} → b ≡ alternatingOf square 0 21 → {r : Float} → r ≡ round binary64 (ltb (b .added) (b .taken)) (distanceOf (b .added) (b .taken)) (2 ^ 60) → One r ≡ cosineOf x
+  pub is-cosine : {r : Float} → r ≡ cosineBy (min square (2 ^ 63)) → One r ≡ cosineOf x
   unfolding cosineOf cosineAt
-  is-cosine eb er =
-      ap One (er ∙ ap at (eb ∙ ap (λ (t : ℕ). alternatingOf t 0 21) (view .square-is z))) ∙ answered cosineAt cosine-same x negative (digits * 2 ^ exponent) (2 ^ 1074) (pow-pos 1074) (view .most z) (view .value z)
-    where
-      at : Balance → Float
-      at c = round binary64 (ltb (c .added) (c .taken)) (distanceOf (c .added) (c .taken)) (2 ^ 60)
+  is-cosine e =
+      ap One (e ∙ ap cosineBy (min-eq-left view-square ∙ view .square-is z)) ∙ answered cosineAt cosine-same x negative (digits * 2 ^ exponent) (2 ^ 1074) (pow-pos 1074) (view .most z) (view .value z)
 
 -- ---- the one rounding counts in 2^-2340, the sum in 2^-60, and x in 2^-1074
 abbrev sum-unit : ℕ

@@ -32,12 +32,12 @@ fn square(digits: u64, exponent: u64) -> u64
 }
 
 // A refusal number, or 0, and then ± digits * 2^exponent smallest f64, at most 4, with its square.
-pub(crate) struct Angle {
-    pub(crate) refusal: u8,
-    pub(crate) negative: bool,
-    pub(crate) digits: u64,
-    pub(crate) exponent: u64,
-    pub(crate) square: u64,
+pub struct Angle {
+    pub refusal: u8,
+    pub negative: bool,
+    pub digits: u64,
+    pub exponent: u64,
+    pub square: u64,
 }
 
 fn refused(number: u8) -> Angle
@@ -52,7 +52,7 @@ fn refused(number: u8) -> Angle
     }
 }
 
-pub(crate) fn view(x: f64) -> Angle
+pub fn view(x: f64) -> Angle
     ensures { λ r. ⌜ Viewed x r.refusal r.negative r.digits r.exponent r.square ⌝ }
 {
     if x != x {

@@ -6,20 +6,20 @@
 // the cut sums from n on, short of the exact ones by a few units (the divisors still to come divide
 // what was lost). Their difference is cosine, and times x sine; one rounding to nearest ends each.
 ghost use mathlib.Core.Path.{_≡_};
-ghost use Prim.Native.Nat.{_*_, _^_, _≤_};
+ghost use Prim.Native.Nat.{_*_, _^_, _≤_, min};
 ghost use lib.Dec.{ltb};
 ghost use lib.Ieee.{binary64, unlike, round};
 ghost use Rattle.bounds.specs.Close.{distanceOf};
 ghost use Rattle.angle.specs.Series.{SineWithin, CosineWithin, UpToOne};
 ghost use Rattle.angle.specs.Sine.{sineOf};
-ghost use Rattle.angle.specs.Cosine.{cosineOf};
+ghost use Rattle.angle.specs.Cosine.{cosineBy, cosineOf};
 
 mod argument;
 mod series;
 
 use answer::Answer;
-use argument::Angle;
-use argument::view;
+pub use argument::Angle;
+pub use argument::view;
 use bits::product;
 use bits::rounded;
 use series::Balance;
@@ -28,6 +28,9 @@ use series::odd;
 
 // The rounding counts in 2^-2340, the sum in 2^-60; x is a whole number of smallest f64, 2^-1074.
 const SUM_UNIT: u64 = 2340 - 60;
+
+// 16 in units of 2^-59.
+const SIXTEEN: u64 = 0x8000_0000_0000_0000;
 
 const PRODUCT_UNIT: u64 = SUM_UNIT - 1074;
 
@@ -61,6 +64,20 @@ fn cosine_from(b: Balance) -> f64
     rounded(b.added < b.taken, 0, gap, false, SUM_UNIT)
 }
 
+// A square, or 4^2 where it is more, which no angle's is.
+fn at_most_16(square: u64) -> u64
+    ensures { λ r. ⌜ r ≡ min square (2 ^ 63) ⌝ }
+{
+    if square > SIXTEEN { SIXTEEN } else { square }
+}
+
+// Cosine by the square of its angle.
+pub fn cosine_by(square: u64) -> f64
+    ensures { λ r. ⌜ r ≡ cosineBy (min square (2 ^ 63)) ⌝ }
+{
+    cosine_from(even(at_most_16(square)))
+}
+
 // Within |x| 2^-52 of x - x^3/3! + .. + x^41/41!, never above 1, odd, and x itself for |x| < 2^-30.
 pub fn sine(x: f64) -> Answer
     ensures { λ r. ⌜ (r ≡ sineOf x) × SineWithin 48 x r × SineWithin 52 x r × UpToOne r ⌝ }
@@ -72,26 +89,16 @@ pub fn sine(x: f64) -> Answer
     Answer::One(sine_from(a, odd(a.square)))
 }
 
-// Within 2^-52 of 1 - x^2/2! + .. - x^42/42!, never above 1, and even.
-pub fn cosine(x: f64) -> Answer
-    ensures { λ r. ⌜ (r ≡ cosineOf x) × CosineWithin 46 x r × CosineWithin 52 x r × UpToOne r ⌝ }
-{
-    let a = view(x);
-    if a.refusal > 0 {
-        return Answer::Refused(a.refusal);
-    }
-    Answer::One(cosine_from(even(a.square)))
-}
-
 // The two answers of one angle.
 pub struct Circle {
     pub sine: Answer,
     pub cosine: Answer,
 }
 
-// Both, as `sine` and `cosine` answer: x is seen once, and neither sum waits for the other.
+// Sine as above; cosine within 2^-52 of 1 - x^2/2! + .. - x^42/42!, never above 1, and even. x is seen once, and neither sum waits for the other.
 pub fn sine_cosine(x: f64) -> Circle
-    ensures { λ r. ⌜ (r .sine ≡ sineOf x) × (r .cosine ≡ cosineOf x) ⌝ }
+    ensures { λ r. ⌜ (r .sine ≡ sineOf x) × SineWithin 48 x (r .sine) × SineWithin 52 x (r .sine) × UpToOne (r .sine) ⌝ }
+    ensures { λ r. ⌜ (r .cosine ≡ cosineOf x) × CosineWithin 46 x (r .cosine) × CosineWithin 52 x (r .cosine) × UpToOne (r .cosine) ⌝ }
 {
     let a = view(x);
     if a.refusal > 0 {
@@ -100,10 +107,9 @@ pub fn sine_cosine(x: f64) -> Circle
             cosine: Answer::Refused(a.refusal),
         };
     }
-    let s = odd(a.square);
-    let c = even(a.square);
+    let c = cosine_by(a.square);
     Circle {
-        sine: Answer::One(sine_from(a, s)),
-        cosine: Answer::One(cosine_from(c)),
+        sine: Answer::One(sine_from(a, odd(a.square))),
+        cosine: Answer::One(c),
     }
 }

@@ -1,3 +1,4 @@
--- 01's corner table (Table); corner facts, each side computed (laws).
+-- 01's corner table (Table); the largest f64 (Most); corner facts, each side computed (laws).
+pub mod Most
 pub mod Table
 pub mod laws

@@ -15,7 +15,7 @@ use Rattle.answer.specs.declared.Answer.the-variants.{One, Pair, Infinite, Refu
 use Rattle.answer.specs.Answer.{refusalOf, firstOf, secondOf}
 use Rattle.answer.specs.Numbers.{last}
 use Rattle.answer.specs.Sound.{Sound}
-use Rattle.answer.specs.laws.Sound.{never-nan, refused-zeros}
+use Rattle.answer.specs.laws.Sound.{never-nan}
 use Rattle.sheet.specs.Functions.{evaluateOf}
 use Rattle.sheet.specs.laws.Evaluated.{evaluated-sound, beyond}
 use Rattle.ledger.specs.Sheet.{withdrawn, withoutTimes, withTimes, mostRows, sizeFor}
@@ -54,6 +54,14 @@ pub record Demand1 : Type 0 where
   pub only-read : (s : List ℕ) (i f : ℕ) → isSheetOf withoutTimes s ≡ true → (totalRefusal s ≡ 0) × (editRefusal s i f ≡ 7)
 
 -- ---- why
+
+-- a refused answer reads as two zeros
+refused-zeros : (a : Answer) → 0 < refusalOf a → (firstOf a ≡ +0) × (secondOf a ≡ +0)
+unfolding refusalOf firstOf secondOf
+refused-zeros (One x) h = absurd (let z : ⊥ = omega arith in z)
+refused-zeros (Pair x y) h = absurd (let z : ⊥ = omega arith in z)
+refused-zeros (Infinite s) h = absurd (let z : ⊥ = omega arith in z)
+refused-zeros (Refused n) h = (refl, refl)
 
 second-never-nan : (a : Answer) → Sound a → isNan (secondOf a) ≡ false
 unfolding Sound secondOf isNan ofBits

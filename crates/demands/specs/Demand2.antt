@@ -10,7 +10,8 @@ use lib.Ieee.Exact.{HasValue}
 use lib.Ieee.Positive.{positive}
 use Rattle.laws.specs.Arithmetic.{float}
 use Rattle.root.specs.Root.{rootOf}
-use Rattle.root.specs.laws.Meaning.{kept, dropped, Between, root-nearest}
+use Rattle.root.specs.laws.Meaning.{kept, dropped, Between}
+use Rattle.demands.specs.laws.Root.{root-nearest}
 use Rattle.fused.specs.Fused.{fusedOf}
 use Rattle.fused.specs.laws.Meaning.{fused-fraction}
 use Rattle.legendre.specs.Ellipk.{ellipkOf}

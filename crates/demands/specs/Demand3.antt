@@ -14,13 +14,14 @@ use lib.Ieee.{Float, round, fits, binary64}
 use lib.Ieee.Exact.{HasValue}
 use lib.Ieee.Scale.{finite}
 use Rattle.total.specs.Total.{N, Half, negative, sizeOf, addOf, takeOf}
-use Rattle.total.specs.laws.Units.{whole, undone}
+use Rattle.exact.specs.laws.Units.{whole}
+use Rattle.demands.specs.laws.Undone.{undone}
 use Rattle.ledger.specs.Sheet.{Row, mostRows, encode}
 use Rattle.ledger.specs.Calls.{totalIn, blankRefusal, blankOf, totalRefusal, totalOf}
 use Rattle.ledger.specs.laws.Refusals.{makeable}
 use Rattle.sheet.specs.declared.Entry.{Entry}
 use Rattle.sheet.specs.Edit.{rowOf, editOf}
-use Rattle.sheet.specs.laws.Stored.{Says, says}
+use Rattle.demands.specs.laws.Stored.{Says, says}
 use Rattle.demands.specs.Edits.{Edit, answer, after, run, answerIn, fresh, blanks, AllWorked, above, below, Elsewhere}
 use Rattle.demands.specs.laws.Encoded.{answers, given, total-is}
 use Rattle.demands.specs.laws.Whole.{above-small, below-small, total-whole, rounded-whole}

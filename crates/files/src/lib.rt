@@ -1,8 +1,8 @@
-// The one crate that opens, reads, makes and writes files, and knows the words of the program's call. Each call of C stands in one function, whose contract says that
-// it was made and what it answered.
+// The one crate that reads, makes and writes files, and knows the words of the program's call; `loading` opens those that are there. Each call of C stands in one
+// function, whose contract says that it was made and what it answered.
 mod calling;
+mod closing;
 mod naming;
-mod opening;
 mod reading;
 mod saving;
 mod saying;
@@ -11,8 +11,7 @@ mod sending;
 pub use calling::WORD;
 pub use calling::word;
 pub use calling::word_count;
-pub use opening::close;
-pub use opening::open;
+pub use closing::close;
 pub use reading::call_read;
 pub use reading::read_some;
 pub use saving::save;

@@ -1,7 +1,7 @@
 // A file put in place whole.
+use crate::closing::close;
 use crate::naming::put_new;
 use crate::naming::try_names;
-use crate::opening::close;
 ghost use mathlib.Core.Bool.{true};
 ghost use Prim.Native.Nat.{_<_};
 ghost use lib.ListN.{length, take};

@@ -9,7 +9,8 @@ fn fix_sheet(program: &[u8], input: i32, output: i32, name: &[u8], bytes: &[u8])
     requires { ⌜ Load (now name) (now bytes) true ⌝ }
     ensures { λ _. ⌜ Fixed input output (now (name .entry)) ⌝ }
 {
-    if runner::run_on(program, input, output, name, bytes) {
+    if ledger::total_refusal(bytes) == 0 {
+        runner::run(program, input, output, true, name, bytes);
         return;
     }
     files::tell(

@@ -54,10 +54,6 @@ abbrev pub +∞ : Float
 abbrev pub -∞ : Float
 -∞ = float 0xfff0_0000_0000_0000
 
--- the largest finite f64
-abbrev pub most : Float
-most = float 0x7fef_ffff_ffff_ffff
-
 abbrev pub π : Float
 π = float 0x4009_21fb_5444_2d18
 

@@ -5,7 +5,7 @@ use files::put_note;
 ghost use mathlib.Core.Path.{_≡_};
 ghost use Prim.Native.Nat.{_≤_};
 ghost use lib.ListN.{length, take, drop};
-ghost use Rattle.files.specs.Calls.{Called, read, reads};
+ghost use Rattle.files.specs.Calls.{Called, opens, read, reads};
 ghost use Rattle.files.specs.Output.{Wrote};
 ghost use Rattle.loading.specs.Load.{most, Brought, Load};
 ghost use Rattle.loading.specs.Notes.{cannotRead, refused7};
@@ -17,6 +17,13 @@ pub const MOST: usize = 49481;
 pub struct Loaded {
     pub length: usize,
     pub ok: bool,
+}
+
+// The one call that opens a file for reading.
+fn open(name: &[u8]) -> i32
+    ensures { λ r. ⌜ Called (opens (now (name .entry)) r) ⌝ }
+{
+    os::open_read(name)
 }
 
 // A read into the buffer from a place on, which is also its number.
@@ -63,7 +70,7 @@ pub fn load(name: &[u8], into: &mut [u8; MOST]) -> Loaded
     ensures { λ r. ⌜ Load (now (name .entry)) (take (r .length) (now (into .exit))) (r .ok) ⌝ }
     ensures { λ r. ⌜ r .length ≤ length (now (into .exit)) ⌝ }
 {
-    let file = files::open(name);
+    let file = open(name);
     if file < 0 {
         return Loaded {
             length: 0,

@@ -120,7 +120,7 @@ fn write(line: &[u8], sheet: &mut [u8], c: u8) -> bool {
         return edit(line, sheet);
     }
     if c == b'C' {
-        return sheet::clear(sheet, word(line, 2)) == byte(line, 11);
+        return clearing::clear(sheet, word(line, 2)) == byte(line, 11);
     }
     if c == b'P' {
         return poke(sheet, word(line, 2), byte(line, 11));

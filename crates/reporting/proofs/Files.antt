@@ -1,19 +1,17 @@
 -- Files one after the other: what is held after each. Assumes nothing.
 use mathlib.Core.Path.{_≡_, refl, sym, ap, _∙_, subst}
-use Prim.Native.Nat.{ℕ, _+_, _-_, _≤_, _<_}
+use Prim.Native.Nat.{ℕ, _+_, _≤_, _<_}
 use native.Mathlib.Numerals.{add-one}
 use native.Mathlib.Omega.{arith}
 use mathlib.Core.Bool.{Bool, true, false, cond}
 use mathlib.Core.List.{List, [], _∷_, _++_}
 use lib.ListN.{length, take, getD, set, replicate, length-set, length-replicate}
 use lib.Seq.{take-suc, take-suc-set}
-use Rattle.text.specs.Writing.{Put}
 use Rattle.month.specs.declared.parts.Report.{Report}
 use Rattle.month.specs.declared.parts.Stop.{Stop}
 use Rattle.month.specs.Month.{stopOf, startOf, addedOf}
 use Rattle.month.specs.Files.{mostFiles}
 use Rattle.monthly.specs.Monthly.{reportText}
-use Rattle.text.specs.laws.Writing.{front-part}
 use Rattle.files.specs.Calls.{Called, words}
 use Rattle.loading.specs.Load.{Load}
 use Rattle.files.specs.declared.sending.Output.{Output}
@@ -22,10 +20,6 @@ use Rattle.files.specs.laws.Outputs.{wrote-both}
 use Rattle.reporting.specs.declared.parts.Fate.{Fate}
 use Rattle.reporting.specs.laws.Month.{apart-more}
 use Rattle.reporting.specs.Reporting.{fateOf, takenIn, afterFile, apartOf, Met, Took, Line, Lines, Told, ToldAll, Reported}
-
--- what was put at the start of a buffer was sent
-pub sent-front : {old new text : List ℕ} {n : ℕ} {out last : Output} → Put old new 0 n text → Wrote out (take (n - 0) new) last → Wrote out text last
-sent-front {out = out} {last = last} put w = subst (λ (t : List ℕ). Wrote out t last) (front-part put) w
 
 -- ---- one file
 

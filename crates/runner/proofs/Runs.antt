@@ -14,9 +14,9 @@ use Rattle.ledger.specs.laws.Refusals.{sheet-length, sheet-few}
 use Rattle.text.specs.Writing.{Put, Puts}
 use Rattle.text.specs.laws.Writing.{put-length}
 use Rattle.page.specs.Page.{largest}
-use Rattle.ending.specs.Outcome.{Sheet, endedOf}
+use Rattle.ending.specs.Outcome.{endedOf}
 use Rattle.runner.specs.Run.{zeros}
-use Rattle.runner.specs.Machine.{longest, Room, room, fixingOf, finishOf, Begins}
+use Rattle.runner.specs.Machine.{longest, Room, room, startOf, fixingOf, finishOf, Begins}
 use Rattle.text.specs.laws.Writing.{front}
 use Rattle.files.specs.Calls.{read}
 use Rattle.runner.specs.Reads.{Next, last, go-on, spent, mostReads, OneRead, SomeReads}
@@ -71,28 +71,30 @@ savable filed failed st m e run =
       some = eqb-false (st .lines) 0 (not-true (eqb (st .lines) 0) (all .2));
     }
 
--- ---- the sheet of a file
+-- ---- where a run begins
 
-pub never : {A : Type 0} → false ≡ true → A
-never e = let z : _≡_ {A = ℕ} 0 1 = cc in absurd (omega arith)
+-- these bytes are no sheet
+pub begins-without : (from m : List ℕ) → isSheet from ≡ false → m ≡ zeros largest → Begins (begunOf from) (room startOf (zeros longest) m)
+unfolding begunOf zeros
+begins-without from m none e = rw none (refl, refl, e)
 
--- it stands at the front of the memory
-module _ (bytes old new : List ℕ) (b : ℕ) (sheet : isSheet bytes ≡ true) (size : length old ≡ largest) (p : Puts old new 0 b (length bytes) bytes) where
-  few : length bytes ≤ largest
-  few = omega (arith, sheet-length bytes sheet, sheet-few bytes sheet)
+-- they are one, and stand at the front of the memory
+module _ (from old new : List ℕ) (b : ℕ) (sheet : isSheet from ≡ true) (size : old ≡ zeros largest) (p : Puts old new 0 b (length from) from) where
+  whole : length old ≡ largest
+  unfolding zeros
+  whole = rw size refl
 
-  put : Put old new 0 b bytes
-  put = p .put (omega (arith, few))
+  few : length from ≤ largest
+  few = omega (arith, sheet-length from sheet, sheet-few from sheet)
 
-  there : take (length bytes) new ≡ bytes
+  put : Put old new 0 b from
+  put = p .put (omega (arith, few, whole))
+
+  there : take (length from) new ≡ from
   there =
-      let e : length bytes ≡ b = omega (arith, put .next) in
+      let e : length from ≡ b = omega (arith, put .next) in
       rw e (front put)
 
-  pub begun-with : begunOf (fixingOf (length bytes)) new ≡ Sheet bytes
-  unfolding begunOf
-  begun-with = ap Sheet there
-
-  pub fix-begins : Begins (Sheet bytes) (room (fixingOf (length bytes)) (zeros longest) new)
-  unfolding zeros
-  fix-begins = (refl, refl, record { size = refl; whole = put-length old 0 bytes put (omega (arith, put .next, few)) ∙ size; fits = few; bytes = there })
+  pub begins-with : Begins (begunOf from) (room (fixingOf (length from)) (zeros longest) new)
+  unfolding begunOf zeros
+  begins-with = rw sheet (refl, refl, record { size = refl; whole = put-length old 0 from put (omega (arith, put .next, few, whole)) ∙ whole; fits = few; bytes = there })

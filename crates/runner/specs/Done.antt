@@ -7,6 +7,7 @@ use lib.Dec.{eqb}
 use lib.IntN.{ℤ}
 use lib.ListN.{take}
 use Rattle.laws.specs.Ladder.{when_gives_else_}
+use Rattle.ledger.specs.Calls.{isSheet}
 use Rattle.ending.specs.declared.outcome.State.{State}
 use Rattle.ending.specs.Outcome.{Outcome, Start, Sheet, endedOf}
 use Rattle.runner.specs.Machine.{Room, room, finishOf, Begins}
@@ -19,10 +20,10 @@ use Rattle.runner.specs.Reads.{Reads, mostReads}
 
 -- ---- what was read
 
--- where a run begins: with the sheet that is there, or with none
-unfoldable pub begunOf : State → List ℕ → Outcome
-begunOf st m =
-    when st .begun gives Sheet (take (st .size) m) else
+-- where a run begins that is given these bytes: with the sheet that they are, or with none
+unfoldable pub begunOf : List ℕ → Outcome
+begunOf from =
+    when isSheet from gives Sheet from else
     Start
 
 -- the input's lines are all taken, unless a read failed

@@ -14,60 +14,33 @@ use page::LARGEST;
 pub use reading::Turn;
 pub use reading::take_all;
 ghost use mathlib.Core.Path.{_≡_};
-ghost use mathlib.Core.Bool.{true};
-ghost use Rattle.ledger.specs.Calls.{isSheet};
-ghost use Rattle.page.specs.Page.{pageOf};
-ghost use Rattle.ending.specs.Outcome.{Start, Sheet};
+ghost use Rattle.page.specs.Page.{largest, pageOf};
 ghost use Rattle.runner.specs.Run.{zeros};
 ghost use Rattle.runner.specs.Machine.{longest, room, Begins};
 ghost use Rattle.runner.specs.Done.{begunOf, Done};
 
-// A run from where its state and its memory stand.
-fn run_from(
-    program: &[u8],
-    input: i32,
-    output: i32,
-    filed: bool,
-    name: &[u8],
-    st: State,
-    sheet: &mut [u8; LARGEST],
-)
-    requires { ⌜ Begins (begunOf st (now sheet)) (room st (zeros longest) (now sheet)) ⌝ }
-    ensures { λ _. ⌜ Done input output pageOf filed (now (name .entry)) (begunOf st (now (sheet .entry))) ⌝ }
+// Where a run begins: with the sheet in these bytes, at the front of the memory, or with none where they are no sheet.
+fn begin(from: &[u8], sheet: &mut [u8; LARGEST]) -> State
+    requires { ⌜ now sheet ≡ zeros largest ⌝ }
+    ensures { λ r. ⌜ Begins (begunOf (now (from .entry))) (room r (zeros longest) (now (sheet .exit))) ⌝ }
+{
+    if ledger::total_refusal(from) != 0 {
+        return start();
+    }
+    text::put_bytes(sheet, 0, from);
+    between(0, from.len(), false)
+}
+
+// A run from one descriptor to another. It begins with the sheet in `from`, or with none where these bytes are no sheet; where it is filed, the sheet is then in the
+// file of this name.
+pub fn run(program: &[u8], input: i32, output: i32, filed: bool, name: &[u8], from: &[u8])
+    ensures { λ _. ⌜ Done input output pageOf filed (now (name .entry)) (begunOf (now (from .entry))) ⌝ }
 {
     let mut line = [0u8; LONGEST];
-    let end = take_all(input, st, &mut line, sheet);
-    let ok = keep(filed, name, end, sheet);
-    let out = ending::write_page(program, output, name, ok, end.failed, end.st, sheet);
+    let mut sheet = [0u8; LARGEST];
+    let st = begin(from, &mut sheet);
+    let end = take_all(input, st, &mut line, &mut sheet);
+    let ok = keep(filed, name, end, &sheet);
+    let out = ending::write_page(program, output, name, ok, end.failed, end.st, &sheet);
     ending::tell_cut(program, out);
-}
-
-// A run from no sheet, from one descriptor to another; where it is filed, the sheet is then in the file of this name.
-pub fn run(program: &[u8], input: i32, output: i32, filed: bool, name: &[u8])
-    ensures { λ _. ⌜ Done input output pageOf filed (now (name .entry)) Start ⌝ }
-{
-    let mut sheet = [0u8; LARGEST];
-    run_from(program, input, output, filed, name, start(), &mut sheet);
-}
-
-// A filed run from the sheet in these bytes. False: they are no sheet, and nothing was read or written.
-pub fn run_on(program: &[u8], input: i32, output: i32, name: &[u8], bytes: &[u8]) -> bool
-    ensures { λ r. ⌜ r ≡ isSheet (now (bytes .entry)) ⌝ }
-    ensures { λ r. ⌜ (r ≡ true → Done input output pageOf true (now (name .entry)) (Sheet (now (bytes .entry)))) ⌝ }
-{
-    if ledger::total_refusal(bytes) != 0 {
-        return false;
-    }
-    let mut sheet = [0u8; LARGEST];
-    text::put_bytes(&mut sheet, 0, bytes);
-    run_from(
-        program,
-        input,
-        output,
-        true,
-        name,
-        between(0, bytes.len(), false),
-        &mut sheet,
-    );
-    true
 }

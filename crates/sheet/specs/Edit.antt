@@ -14,10 +14,6 @@ use Rattle.sheet.specs.declared.Entry.{Entry}
 
 -- ---- what is entered: a function's number, its arguments' bit patterns, and how often the leg was driven
 
--- what clears a row
-abbrev pub cleared : Entry
-cleared = record { function = 0; a = 0; b = 0; c = 0; times = 0 }
-
 -- argument k, where the function reads so many; zero in place of one that it does not
 unfoldable pub keep : ℕ → ℕ → ℕ → ℕ
 keep f k x = cond (ltb k (usedOf f)) x 0

@@ -2,7 +2,7 @@
 // its place. Each call answers for any bytes; a refused edit changes none.
 use row::words;
 ghost use mathlib.Core.Path.{_≡_};
-ghost use Rattle.sheet.specs.Edit.{cleared, editRefusal, editOf};
+ghost use Rattle.sheet.specs.Edit.{editRefusal, editOf};
 
 mod functions;
 mod row;
@@ -25,21 +25,4 @@ pub fn edit(sheet: &mut [u8], row: u32, entry: Entry) -> u8
     ensures { λ r. ⌜ (r ≡ editRefusal (now (sheet .entry)) row (entry .function)) × (now (sheet .exit) ≡ editOf (now (sheet .entry)) row entry) ⌝ }
 {
     ledger::place(sheet, row, words(entry))
-}
-
-// A row made blank: an edit to function 0.
-pub fn clear(sheet: &mut [u8], row: u32) -> u8
-    ensures { λ r. ⌜ (r ≡ editRefusal (now (sheet .entry)) row 0) × (now (sheet .exit) ≡ editOf (now (sheet .entry)) row cleared) ⌝ }
-{
-    edit(
-        sheet,
-        row,
-        Entry {
-            function: 0,
-            a: 0,
-            b: 0,
-            c: 0,
-            times: 0,
-        },
-    )
 }

@@ -7,7 +7,8 @@ ghost use lib.Ieee.{toBits, ofBits, binary64};
 ghost use lib.ListN.{length};
 ghost use Rattle.root.specs.Root.{rootOf};
 ghost use Rattle.fused.specs.Fused.{fusedOf};
-ghost use Rattle.whole.specs.Whole.{magnitudeOf, truncOf, floorOf, roundOf};
+ghost use Rattle.whole.specs.Whole.{magnitudeOf, roundOf};
+ghost use Rattle.floor.specs.Floor.{truncOf, floorOf};
 ghost use Rattle.remainder.specs.Remainder.{remainderOf};
 ghost use Rattle.answer.specs.Answer.{valueOf};
 ghost use Rattle.angle.specs.Sine.{sineOf};
@@ -31,14 +32,14 @@ pub extern "C" fn sm_magnitude(x: u64) -> u64
 pub extern "C" fn sm_trunc(x: u64) -> u64
     ensures { λ r. ⌜ r ≡ toBits binary64 (truncOf (ofBits binary64 x)) ⌝ }
 {
-    bits::to_pattern(whole::trunc(bits::from_pattern(x)))
+    bits::to_pattern(floor::trunc(bits::from_pattern(x)))
 }
 
 #[no_mangle]
 pub extern "C" fn sm_floor(x: u64) -> u64
     ensures { λ r. ⌜ r ≡ toBits binary64 (floorOf (ofBits binary64 x)) ⌝ }
 {
-    bits::to_pattern(whole::floor(bits::from_pattern(x)))
+    bits::to_pattern(floor::floor(bits::from_pattern(x)))
 }
 
 #[no_mangle]
@@ -85,7 +86,7 @@ pub extern "C" fn sm_sine(x: u64) -> u64
 pub extern "C" fn sm_cosine(x: u64) -> u64
     ensures { λ r. ⌜ r ≡ toBits binary64 (valueOf (cosineOf (ofBits binary64 x))) ⌝ }
 {
-    bits::to_pattern(answer::value(angle::cosine(bits::from_pattern(x))))
+    bits::to_pattern(answer::value(cosine::cosine(bits::from_pattern(x))))
 }
 
 #[no_mangle]

@@ -81,10 +81,10 @@ fn single(kind: u8, x: f64) -> f64 {
         return whole::magnitude(x);
     }
     if kind == 2 {
-        return whole::trunc(x);
+        return floor::trunc(x);
     }
     if kind == 3 {
-        return whole::floor(x);
+        return floor::floor(x);
     }
     if kind == 4 {
         return whole::round(x);
@@ -154,7 +154,7 @@ fn computed(kind: u8, x: f64) -> Answer {
         return angle::sine(x);
     }
     if kind == 12 {
-        return angle::cosine(x);
+        return cosine::cosine(x);
     }
     logarithm::logarithm(x)
 }

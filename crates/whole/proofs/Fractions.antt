@@ -1,46 +1,20 @@
--- The shifts of the whole-number functions, and the functions at a value's parts. Assumes nothing.
+-- The shifts of `round`, and magnitude by its bits. Assumes nothing.
 use mathlib.Core.Path.{_≡_, refl, sym, ap, _∙_, subst}
-use mathlib.Core.Bool.{Bool, true, false, not, cond, _&&_, true≢false}
+use mathlib.Core.Bool.{Bool, true, false, not, cond}
 use Prim.Native.Nat.{ℕ, _+_, _-_, _*_, _/_, _%_, _^_, _≤_, _<_}
-use native.Mathlib.Nat.{le-trans, le-of-eq, lt-of-lt-of-le, zero-add, add-assoc, mul-assoc, mul-right-comm, mul-le-mul, mul-le-mul-left, mul-div-mul-left, div-eq-of-lt, mod-eq-of-lt, div-le-self, div-mul-le-self, eq-of-mul-eq-mul-right, add-mul-mod-self-left}
+use native.Mathlib.Nat.{le-trans, le-of-eq, zero-add, add-assoc, mul-le-mul-left, mul-div-mul-left, div-eq-of-lt, mod-eq-of-lt, div-mul-le-self, add-mul-mod-self-left}
 use native.Mathlib.Omega.{arith}
 use lib.Bits.{bitAnd, and-mask}
-use lib.Dec.{T, ltb, ltb→lt, le→leb, nltb→le, lit<, lit≤}
-use lib.IntN.{ℤ, pos}
-use lib.Pow.{pow-add, pow-pos, pow-mono}
-use lib.Ieee.{Float, nan, inf, fin, binary64, up, down, round, fits, neg, isNan, toBits, ofBits, ofInt, inFloat, hid, nanBits, size}
+use lib.Dec.{T, lit<, lit≤}
+use lib.IntN.{ℤ}
+use lib.Pow.{pow-add, pow-mono}
+use lib.Ieee.{Float, nan, inf, fin, binary64, up, down, fits, neg, isNan, toBits, ofBits, hid, nanBits, size}
 use lib.Ieee.Bits.{ofBits-toBits, toBits-lt, nanBits-is}
-use lib.Ieee.Exact.{HasValue}
 use lib.Ieee.Fits.{neg-fits}
-use lib.Ieee.Scale.{finite}
-use Rattle.laws.specs.laws.Exact.{round-neg}
-use Rattle.laws.specs.laws.Flags.{holds, fails, both-true}
 use Rattle.laws.specs.laws.Digits.{one-shl}
-use Rattle.bits.specs.Parts.{Decoded, PartsOf}
-use Rattle.whole.specs.Whole.{magnitudeOf, truncOf, floorOf, roundOf, ceiling, halfUp}
-use Rattle.whole.specs.laws.Meaning.{trunc-fraction, floor-fraction, round-fraction}
+use Rattle.whole.specs.Whole.{magnitudeOf, halfUp}
 
 -- ---- w / 2 ^ s for a w of 53 digits
-pub lower-far : (w s : ℕ) → w < 2 ^ 53 → 64 ≤ s → 0 ≡ w / 2 ^ s
-lower-far w s h l = sym (div-eq-of-lt (lt-of-lt-of-le h (pow-mono {i = 53} (le-trans (lit≤ tt) l))))
-
-pub lower-le : (w s : ℕ) → w < 2 ^ 53 → w / 2 ^ s ≤ 2 ^ 53
-lower-le w s h = let d = div-le-self w (2 ^ s) in omega arith
-
-rest-far : (w s : ℕ) → w < 2 ^ 53 → 64 ≤ s → w % 2 ^ s ≡ w
-rest-far w s h l = mod-eq-of-lt (lt-of-lt-of-le h (pow-mono {i = 53} (le-trans (lit≤ tt) l)))
-
-pub upper-far : (w s : ℕ) (b : Bool) → w < 2 ^ 53 → 64 ≤ s → ltb 0 w ≡ b → cond b 1 0 ≡ ceiling w (2 ^ s)
-unfolding ceiling
-upper-far w s b h l e = sym (zero-add (cond b 1 0)) ∙ (λ i. lower-far w s h l i + cond ((sym e ∙ ap (ltb 0) (sym (rest-far w s h l))) i) 1 0)
-
-pub upper-near : (w s : ℕ) (b : Bool) → s < 64 → ltb 0 (w % (1 * 2 ^ s % 2 ^ 64)) ≡ b → w / 2 ^ s + cond b 1 0 ≡ ceiling w (2 ^ s)
-unfolding ceiling
-upper-near w s b h e = ap (λ (t : Bool). w / 2 ^ s + cond t 1 0) (sym e ∙ ap (λ (x : ℕ). ltb 0 (w % x)) (one-shl s h))
-
-pub upper-le : (w s : ℕ) → w < 2 ^ 53 → w / 2 ^ s + 1 ≤ 2 ^ 53
-upper-le w s h = let d = div-le-self w (2 ^ s) in omega arith
-
 pub half-far : (w s : ℕ) → w < 2 ^ 53 → 55 ≤ s → 0 ≡ halfUp w (2 ^ s)
 unfolding halfUp
 half-far w s h l = sym (div-eq-of-lt (lt w (2 ^ s) (pow-mono {i = 54} (le-trans (lit≤ tt) l)) h))
@@ -73,64 +47,6 @@ half-shift w s h p l =
   where
     go : (n w p c : ℕ) → w < 2 ^ 53 → p ≤ 2 ^ 53 → 2 ≤ c → n * c ≤ w + p → n ≤ 2 ^ 53
     go n w p c a b d e = let m : n * 2 ≤ n * c = mul-le-mul-left n d in omega arith
-
--- ---- a whole number with a sign
-pub in-float : (n : ℕ) → n ≤ 2 ^ 53 → T (inFloat binary64 (pos n))
-unfolding inFloat
-in-float n h = le→leb n (2 ^ 53) h
-
-pub signed-neg : (s : Bool) (n : ℕ) → s ≡ true → neg (ofInt binary64 (pos n)) ≡ round binary64 s n 1
-unfolding ofInt
-signed-neg s n e = sym (ap (λ (b : Bool). round binary64 b n 1) e ∙ round-neg binary64 false n 1)
-
-pub signed-pos : (s : Bool) (n : ℕ) → s ≡ false → ofInt binary64 (pos n) ≡ round binary64 s n 1
-unfolding ofInt
-signed-pos s n e = sym (ap (λ (b : Bool). round binary64 b n 1) e)
-
--- ---- a value's parts
-module _ (x : Float) (f s : Bool) (d e : ℕ) (p : PartsOf x f s d e) where
-  -- below 2 ^ 52: d / 2 ^ (1074 - e)
-  module _ (q : (f && ltb e 1074) ≡ true) where
-    pub decoded : Decoded x s d e
-    decoded = p .decoded (sym (p .kind) ∙ both-true f (ltb e 1074) q .0)
-
-    pub under : e < 1074
-    under = ltb→lt e 1074 (holds (both-true f (ltb e 1074) q .1))
-
-    value : HasValue x s d (2 ^ (1074 - e))
-    value = rescale x (subst (λ (z : ℕ). HasValue x s (d * 2 ^ e) z) (ap (λ (z : ℕ). 2 ^ z) (let u = under in let z : 1074 ≡ 1074 - e + e = omega arith in z) ∙ pow-add 2 (1074 - e) e) (decoded .value))
-      where
-        rescale : (x : Float) → HasValue x s (d * 2 ^ e) (2 ^ (1074 - e) * 2 ^ e) → HasValue x s d (2 ^ (1074 - e))
-        rescale nan h = h
-        rescale (inf t) h = h
-        rescale (fin t m k) h = (h .0, eq-of-mul-eq-mul-right (2 ^ e) (pow-pos e) (m * up k * 2 ^ (1074 - e)) (d * down k) (mul-assoc (m * up k) (2 ^ (1074 - e)) (2 ^ e) ∙ h .1 ∙ mul-right-comm d (2 ^ e) (down k)))
-
-    pub trunc-low : (n : ℕ) → n ≡ d / 2 ^ (1074 - e) → round binary64 s n 1 ≡ truncOf x
-    trunc-low n z = ap (λ (y : ℕ). round binary64 s y 1) z ∙ sym (trunc-fraction x s d (2 ^ (1074 - e)) (pow-pos (1074 - e)) value)
-
-    pub round-low : (n : ℕ) → n ≡ halfUp d (2 ^ (1074 - e)) → round binary64 s n 1 ≡ roundOf x
-    round-low n z = ap (λ (y : ℕ). round binary64 s y 1) z ∙ sym (round-fraction x s d (2 ^ (1074 - e)) (pow-pos (1074 - e)) value)
-
-    pub floor-low : (t : Bool) (n : ℕ) → s ≡ t → n ≡ cond t (ceiling d (2 ^ (1074 - e))) (d / 2 ^ (1074 - e)) → round binary64 t n 1 ≡ floorOf x
-    floor-low t n r z =
-        (λ i. round binary64 (sym r i) ((z ∙ ap (λ (b : Bool). cond b (ceiling d (2 ^ (1074 - e))) (d / 2 ^ (1074 - e))) (sym r)) i) 1)
-        ∙ sym (floor-fraction x s d (2 ^ (1074 - e)) (pow-pos (1074 - e)) value)
-
-  -- the others stay as they are: not finite, or from 2 ^ 52 on
-  pub stays : (F : Float → Float) → ((x : Float) → finite x ≡ false → F x ≡ x) → ((x : Float) (s : Bool) (a c : ℕ) → 0 < c → T (fits binary64 x) → HasValue x s a c → 2 ^ 52 * c ≤ a → F x ≡ x)
-      → T (fits binary64 x) → (f && ltb e 1074) ≡ false → x ≡ F x
-  stays F other large h q = go (finite x) refl
-    where
-      high : (b : Bool) → f ≡ b → finite x ≡ true → ltb e 1074 ≡ false
-      high true r z = sym (ap (λ (b : Bool). b && ltb e 1074) r) ∙ q
-      high false r z = absurd (true≢false (sym z ∙ sym (p .kind) ∙ r))
-
-      go : (b : Bool) → finite x ≡ b → x ≡ F x
-      go false z = sym (other x z)
-      go true z =
-          let w = p .decoded z in
-          let u : 1074 ≤ e = nltb→le e 1074 (fails (high f refl z)) in
-          sym (large x s (d * 2 ^ e) (2 ^ 1074) (pow-pos 1074) h (w .value) (mul-le-mul (w .lead (let y : 0 < e = omega arith in y)) (pow-mono u)))
 
 -- ---- the sign's bit taken off
 wrap : (t r : ℕ) → r < t → (t + r) % t ≡ r

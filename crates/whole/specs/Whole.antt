@@ -1,8 +1,7 @@
--- Magnitude, truncation, floor and rounding to a whole number with halves away from zero (01, module 1; Rust's `abs`, `trunc`, `floor`, `round`). Definitions only.
--- A finite value is a fraction a / c in size: a = m * up e, c = down e. Each function gives a whole number with the value's own sign, so a zero keeps it.
-use Prim.Native.Nat.{ℕ, _+_, _*_, _/_, _%_}
-use mathlib.Core.Bool.{false, cond}
-use lib.Dec.{ltb}
+-- Magnitude, and rounding to a whole number with halves away from zero (01, module 1; Rust's `abs`, `round`). Definitions only.
+-- A finite value is a fraction a / c in size: a = m * up e, c = down e. The whole number has the value's own sign, so a zero keeps it.
+use Prim.Native.Nat.{ℕ, _+_, _*_, _/_}
+use mathlib.Core.Bool.{false}
 use lib.Ieee.{Float, nan, inf, fin, binary64, up, down, round}
 
 unfoldable pub magnitudeOf : Float → Float
@@ -10,25 +9,9 @@ magnitudeOf nan = nan
 magnitudeOf (inf s) = inf false
 magnitudeOf (fin s m e) = fin false m e
 
--- a / c, or the next whole number where it is none
-unfoldable pub ceiling : ℕ → ℕ → ℕ
-ceiling a c = a / c + cond (ltb 0 (a % c)) 1 0
-
 -- the whole number nearest to a / c, a half going up
 unfoldable pub halfUp : ℕ → ℕ → ℕ
 halfUp a c = (2 * a + c) / (2 * c)
-
-unfoldable pub truncOf : Float → Float
-truncOf nan = nan
-truncOf (inf s) = inf s
-truncOf (fin s m e) = round binary64 s (m * up e / down e) 1
-
--- a negative number's size goes up
-unfoldable pub floorOf : Float → Float
-unfolding ceiling
-floorOf nan = nan
-floorOf (inf s) = inf s
-floorOf (fin s m e) = round binary64 s (cond s (ceiling (m * up e) (down e)) (m * up e / down e)) 1
 
 unfoldable pub roundOf : Float → Float
 unfolding halfUp

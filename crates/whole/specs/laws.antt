@@ -1,3 +1,4 @@
--- What the definitions mean, magnitude by its cases, and 01's corners.
+-- A function to whole numbers (Wholes), that `round` is one (Meaning), and the size of a magnitude.
+pub mod Wholes
 pub mod Meaning
 pub mod Magnitude

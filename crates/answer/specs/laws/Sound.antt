@@ -1,17 +1,15 @@
 -- What a sound answer reads out as. Assumes nothing.
 use mathlib.Core.Path.{_≡_, refl}
 use mathlib.Core.Bool.{false}
-use Prim.Native.Nat.{ℕ, _≤_, _<_}
+use Prim.Native.Nat.{ℕ, _≤_}
 use native.Mathlib.Nat.{le-trans}
-use native.Mathlib.Omega.{arith}
 use lib.Dec.{T, leb→le, lit≤}
 use lib.Ieee.{Float, nan, inf, fin, binary64, isNan, fits, ofBits}
 use lib.Ieee.Bits.{ofBits-fits}
 use lib.Ieee.Fits.{inf-fits}
-use Rattle.laws.specs.Arithmetic.{+0}
 use Rattle.answer.specs.declared.Answer.{Answer}
 use Rattle.answer.specs.declared.Answer.the-variants.{One, Pair, Infinite, Refused}
-use Rattle.answer.specs.Answer.{refusalOf, firstOf, secondOf}
+use Rattle.answer.specs.Answer.{refusalOf, firstOf}
 use Rattle.answer.specs.Numbers.{stored}
 use Rattle.answer.specs.Sound.{Number, Value, Sound}
 
@@ -48,18 +46,3 @@ fits-first (One x) s = s .fit
 fits-first (Pair x y) s = s .0 .fit
 fits-first (Infinite t) s = inf-fits binary64 t
 fits-first (Refused n) s = ofBits-fits binary64 0
-
-pub fits-second : (a : Answer) → Sound a → T (fits binary64 (secondOf a))
-unfolding Sound secondOf
-fits-second (One x) s = ofBits-fits binary64 0
-fits-second (Pair x y) s = s .1 .fit
-fits-second (Infinite t) s = ofBits-fits binary64 0
-fits-second (Refused n) s = ofBits-fits binary64 0
-
--- a refused answer reads as two zeros
-pub refused-zeros : (a : Answer) → 0 < refusalOf a → (firstOf a ≡ +0) × (secondOf a ≡ +0)
-unfolding refusalOf firstOf secondOf
-refused-zeros (One x) h = absurd (let z : ⊥ = omega arith in z)
-refused-zeros (Pair x y) h = absurd (let z : ⊥ = omega arith in z)
-refused-zeros (Infinite s) h = absurd (let z : ⊥ = omega arith in z)
-refused-zeros (Refused n) h = (refl, refl)

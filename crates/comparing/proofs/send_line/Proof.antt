@@ -1,9 +1,5 @@
 -- What was put at the start of the buffer is what is sent.
-use mathlib.Core.Path.{subst}
-use mathlib.Core.List.{List}
-use Prim.Native.Nat.{ℕ}
-use Rattle.text.specs.laws.Writing.{front-part}
-use Rattle.files.specs.Output.{Wrote}
+use Rattle.loading.specs.laws.Sent.{sent-front}
 use borrow.Author.Needs.{needs}
 use Rattle.comparing.proofs.send_line.Statement.{statement}
 use Rattle.comparing.proofs.send_line.Tie as tie
@@ -24,7 +20,7 @@ put-requires : tie.Need-put-requires
 put-requires c κs = search needs
 
 returns : tie.Need-returns
-returns c = subst (λ (t : List ℕ). Wrote (c .before .before .before .before .before .before .before .args .out) t (c .put .result)) (front-part (c .before .before .before .put-line .ensures .0)) (c .put .ensures)
+returns c = sent-front (c .before .before .before .put-line .ensures .0) (c .put .ensures)
 
 pub send-line-spec : {M : Type 1} → statement M
 send-line-spec =

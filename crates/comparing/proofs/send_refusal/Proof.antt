@@ -1,10 +1,7 @@
 -- The words, the file's name, the line's end.
-use mathlib.Core.Path.{subst}
-use mathlib.Core.List.{List}
-use Prim.Native.Nat.{ℕ}
 use borrow.Author.Tests.{eq-eqb, ne-eqb}
-use Rattle.text.specs.laws.Writing.{front-part}
-use Rattle.files.specs.Output.{Wrote, none}
+use Rattle.loading.specs.laws.Sent.{sent-front}
+use Rattle.files.specs.Output.{none}
 use Rattle.files.specs.laws.Outputs.{wrote-both}
 use Rattle.differing.specs.Differing.{refusedText}
 use borrow.Author.Needs.{needs}
@@ -41,7 +38,7 @@ returns c =
     let a = c .before .before .before .before .before .before .before .before .before .before .before .before .args in
     let p = c .before .before .before .before .before .put in
     rw (eq-eqb _ 1 (c .before .before .before .if1 .taken))
-    (wrote-both (wrote-both (subst (λ (t : List ℕ). Wrote (a .out) t (p .result)) (front-part (c .before .before .before .before .before .before .before .before .put-stop .ensures .0)) (p .ensures)) (c .before .before .put2 .ensures)) (c .put3 .ensures))
+    (wrote-both (wrote-both (sent-front (c .before .before .before .before .before .before .before .before .put-stop .ensures .0) (p .ensures)) (c .before .before .put2 .ensures)) (c .put3 .ensures))
 
 put-requires-4 : tie.Need-put-requires-4
 put-requires-4 c κs = search needs
@@ -58,7 +55,7 @@ returns-2 c =
     let a = c .before .before .before .before .before .before .before .before .before .before .before .before .before .before .args in
     let p = c .before .before .before .before .before .before .before .put in
     rw (ne-eqb _ 1 (c .before .before .before .before .before .if1 .left), eq-eqb _ 2 (c .before .before .before .if2 .taken))
-    (wrote-both (wrote-both (subst (λ (t : List ℕ). Wrote (a .out) t (p .result)) (front-part (c .before .before .before .before .before .before .before .before .before .before .put-stop .ensures .0)) (p .ensures)) (c .before .before .put4 .ensures)) (c .put5 .ensures))
+    (wrote-both (wrote-both (sent-front (c .before .before .before .before .before .before .before .before .before .before .put-stop .ensures .0) (p .ensures)) (c .before .before .put4 .ensures)) (c .put5 .ensures))
 
 slice-aggregate-put-3 : tie.Need-slice-aggregate-put-3
 slice-aggregate-put-3 c = search needs
@@ -72,7 +69,7 @@ returns-3 c =
     let a = c .before .before .before .before .before .before .before .before .before .before .before .before .before .args in
     let p = c .before .before .before .before .before .before .put in
     rw (ne-eqb _ 1 (c .before .before .before .before .if1 .left), ne-eqb _ 2 (c .before .before .if2 .left))
-    (wrote-both (wrote-both (subst (λ (t : List ℕ). Wrote (a .out) t (p .result)) (front-part (c .before .before .before .before .before .before .before .before .before .put-stop .ensures .0)) (p .ensures)) none) (c .put6 .ensures))
+    (wrote-both (wrote-both (sent-front (c .before .before .before .before .before .before .before .before .before .put-stop .ensures .0) (p .ensures)) none) (c .put6 .ensures))
 
 pub send-refusal-spec : {M : Type 1} → statement M
 send-refusal-spec =

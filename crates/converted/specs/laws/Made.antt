@@ -20,7 +20,8 @@ use Rattle.ledger.specs.laws.Fields.{length-bytes, length-fields}
 use Rattle.ledger.specs.laws.Refusals.{sheet-with-times, undamaged}
 use Rattle.sheet.specs.declared.Entry.{Entry}
 use Rattle.sheet.specs.Edit.{rowOf}
-use Rattle.sheet.specs.laws.Stored.{function-rowOf, says}
+use Rattle.sheet.specs.laws.Stored.{function-rowOf}
+use Rattle.demands.specs.laws.Stored.{says}
 use Rattle.demands.specs.Edits.{AllWorked}
 use Rattle.demands.specs.laws.Rows.{Good, Rows, none, more}
 use Rattle.demands.specs.laws.Encoded.{takes-edits, rows-in, row-in, counts-are, whole}

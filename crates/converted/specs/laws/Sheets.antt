@@ -16,7 +16,8 @@ use Rattle.ledger.specs.Calls.{Sized, rowsIn, rowIn, countsIn, equal, isSheetOf
 use Rattle.inspection.specs.Rows.{soundRow, classIn}
 use Rattle.laws.specs.laws.Splices.{drop-past}
 use Rattle.ledger.specs.laws.Fields.{length-bytes, number-bytes}
-use Rattle.ledger.specs.laws.Refusals.{rows-of, length-row, sheet-of-few, sheet-of-length, says}
+use Rattle.demands.specs.laws.Numbers.{rows-of}
+use Rattle.ledger.specs.laws.Refusals.{length-row, sheet-of-few, sheet-of-length, says}
 use Rattle.conversion.specs.declared.Stop.{Stop}
 use Rattle.conversion.specs.Conversion.{saysBefore, saysAfter, once, turned, turnedRows, turnedSheet, rejected, uncounted, oftener, stopped, stopOf, convertedOf}
 use Rattle.conversion.specs.laws.Rows.{held, length-turned, class-turned, sound-turned, times-turned, turned-back}

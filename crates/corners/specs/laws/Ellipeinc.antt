@@ -2,14 +2,15 @@
 use mathlib.Core.Path.{_≡_, refl}
 use mathlib.Core.Bool.{true, false}
 use lib.Ieee.{Float, nan, ofBits, neg, add, sub, sum, mul, div, rem, lt, le, eq, ne, round, toUnsigned}
-use Rattle.laws.specs.Arithmetic.{float, dec, +0, +∞, -∞, most, ½, 1·0, 2·0}
+use Rattle.laws.specs.Arithmetic.{float, dec, +0, +∞, -∞, ½, 1·0, 2·0}
+use Rattle.corners.specs.Most.{most}
 use Rattle.answer.specs.Answer.{valueOf}
 use Rattle.answer.specs.declared.Answer.the-variants.{One, Infinite, Refused}
 use Rattle.root.specs.Root.{rootOf}
 use Rattle.whole.specs.Whole.{magnitudeOf, roundOf}
 use Rattle.angle.specs.Alternating.{squareOf, alternatingOf, upToFour}
 use Rattle.angle.specs.Sine.{sineAt, sineOf}
-use Rattle.angle.specs.Cosine.{cosineAt, cosineOf}
+use Rattle.angle.specs.Cosine.{cosineBy, cosineAt, cosineOf}
 use Rattle.carlson.specs.Loop.{iterate, duplicated}
 use Rattle.carlson.specs.Series.{largerOf, fifthOf}
 use Rattle.rf.specs.Rf.{rootsOf}
@@ -48,5 +49,5 @@ pub record Corners : Type 0 where
   pub two-after-both : countedOf (float 0x400a_6666_6666_6666) 2·0 ≡ record { answer = Refused 2; rounds = 5 }
 
 pub corners : Corners
-unfolding ellipeincOf countedOf onSizeOf reducedOf byRecipeOf withPeriodsOf recipeOf aboveOf ownOf foldedOf sineOf sineAt cosineOf cosineAt upToFour squareOf alternatingOf Rf.rfOf Rf.startOf Rf.stopsOf Rf.nextOf Rf.roundOf Rf.closedOf Rf.seriesOf Rd.rdOf Rd.startOf Rd.stopsOf Rd.nextOf Rd.roundOf Rd.closedOf Rd.seriesOf largerOf rootsOf fifthOf iterate duplicated rootOf roundOf farOf itselfOf signOf handedOf valueOf magnitudeOf ellipeOf ellipeWithin byDomain eBelowOneOf belowOneOf truncatedOf rowOf pieceOf centreOf ePieceOf eRows polyevalOf pairedOf hornerOf dec toUnsigned ofBits lt le eq ne add sub sum mul div rem neg round
+unfolding ellipeincOf countedOf onSizeOf reducedOf byRecipeOf withPeriodsOf recipeOf aboveOf ownOf foldedOf sineOf sineAt cosineOf cosineBy cosineAt upToFour squareOf alternatingOf Rf.rfOf Rf.startOf Rf.stopsOf Rf.nextOf Rf.roundOf Rf.closedOf Rf.seriesOf Rd.rdOf Rd.startOf Rd.stopsOf Rd.nextOf Rd.roundOf Rd.closedOf Rd.seriesOf largerOf rootsOf fifthOf iterate duplicated rootOf roundOf farOf itselfOf signOf handedOf valueOf magnitudeOf ellipeOf ellipeWithin byDomain eBelowOneOf belowOneOf truncatedOf rowOf pieceOf centreOf ePieceOf eRows polyevalOf pairedOf hornerOf dec toUnsigned ofBits lt le eq ne add sub sum mul div rem neg round
 corners = record { zero-nan = refl; tiny-bottom = refl; least-bottom = refl; infinite-nan = refl; nan-bottom = refl; large-one = refl; most-one = refl; most-half = refl; most-zero = refl; most-nan = refl; most-two = refl; three-unasked = refl; two-after-both = refl }

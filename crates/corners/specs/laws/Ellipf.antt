@@ -2,14 +2,15 @@
 use mathlib.Core.Path.{_≡_, refl}
 use mathlib.Core.Bool.{true, false}
 use lib.Ieee.{nan, ofBits, neg, add, sub, sum, mul, div, rem, lt, le, eq, ne, round}
-use Rattle.laws.specs.Arithmetic.{dec, float, +0, +∞, -∞, most, π/2, ½, 1·0, 2·0}
+use Rattle.laws.specs.Arithmetic.{dec, float, +0, +∞, -∞, π/2, ½, 1·0, 2·0}
+use Rattle.corners.specs.Most.{most}
 use Rattle.answer.specs.Answer.{valueOf}
 use Rattle.answer.specs.declared.Answer.the-variants.{One, Infinite, Refused}
 use Rattle.root.specs.Root.{rootOf}
 use Rattle.whole.specs.Whole.{magnitudeOf, roundOf}
 use Rattle.angle.specs.Alternating.{squareOf, alternatingOf, upToFour}
 use Rattle.angle.specs.Sine.{sineAt, sineOf}
-use Rattle.angle.specs.Cosine.{cosineAt, cosineOf}
+use Rattle.angle.specs.Cosine.{cosineBy, cosineAt, cosineOf}
 use Rattle.legendre.specs.Mean.{arithmeticOf, geometricOf, goesOnOf}
 use Rattle.legendre.specs.Mean as Mean
 use Rattle.legendre.specs.Ellipk.{goesOn, nextOf, kFromOf, lastMeansOf, kMeanOf, kUncheckedOf}
@@ -49,7 +50,7 @@ pub record EllipfCorners : Type 0 where
   pub eighth : ellipfOf (float 0x3fe9_21fb_5444_2d18) ½ ≡ One (float 0x3fea_6ebd_0a8c_dc3a)
 
 pub ellipf-corners : EllipfCorners
-unfolding largeOf ellipfOf countedOf signumOf poleOf farOf middleOf recipeOf closedOf withPeriodsOf reducedOf foldedOf infiniteOf finiteOf settledOf handedOf valueOf sineOf sineAt cosineOf cosineAt upToFour squareOf alternatingOf kUncheckedOf kMeanOf lastMeansOf kFromOf nextOf goesOn goesOnOf arithmeticOf geometricOf Mean.iterate Loop.iterate Loop.duplicated largerOf Rf.rfOf Rf.startOf Rf.stopsOf Rf.nextOf Rf.roundOf Rf.closedOf Rf.seriesOf rootOf magnitudeOf roundOf dec ofBits add sub sum mul div rem neg lt le eq ne round
+unfolding largeOf ellipfOf countedOf signumOf poleOf farOf middleOf recipeOf closedOf withPeriodsOf reducedOf foldedOf infiniteOf finiteOf settledOf handedOf valueOf sineOf sineAt cosineOf cosineBy cosineAt upToFour squareOf alternatingOf kUncheckedOf kMeanOf lastMeansOf kFromOf nextOf goesOn goesOnOf arithmeticOf geometricOf Mean.iterate Loop.iterate Loop.duplicated largerOf Rf.rfOf Rf.startOf Rf.stopsOf Rf.nextOf Rf.roundOf Rf.closedOf Rf.seriesOf rootOf magnitudeOf roundOf dec ofBits add sub sum mul div rem neg lt le eq ne round
 ellipf-corners =
     record {
       nan-amplitude = refl;

@@ -17,8 +17,9 @@ use Rattle.ledger.specs.Sheet.{Row, withTimes, rowPlace, sizeFor, entries, clas
 use Rattle.ledger.specs.Calls.{rowsIn, rowIn, countsIn, totalIn, equal, isSheetOf, isSheet, miscounted, damaged, functionRungs, rungs, totalRefusal, revised, edited}
 use Rattle.sheet.specs.Edit.{editRefusal}
 use Rattle.laws.specs.laws.Splices.{take-past, drop-past}
-use Rattle.ledger.specs.laws.Fields.{length-bytes, length-fields, number-bytes, read-fields, fields-append}
-use Rattle.ledger.specs.laws.Refusals.{rows-of, class-lt, length-totals}
+use Rattle.ledger.specs.laws.Fields.{length-bytes, length-fields, number-bytes, fields-append}
+use Rattle.ledger.specs.laws.Refusals.{class-lt, length-totals}
+use Rattle.demands.specs.laws.Numbers.{read-fields, rows-of}
 use Rattle.demands.specs.Edits.{Edit, answer, answerIn}
 use Rattle.demands.specs.laws.Rows.{Good, Rows, rows-set, rows-sound, length-flat, row-flat, splice-flat}
 use Rattle.demands.specs.laws.Tally.{hit-self, count-has, count-le, counts-all, counts-at, counts-set, sum-moved}

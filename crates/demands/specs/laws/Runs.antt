@@ -15,8 +15,9 @@ use Rattle.ledger.specs.Sheet.{Row, mostRows, encode}
 use Rattle.ledger.specs.Calls.{edited}
 use Rattle.ledger.specs.laws.Refusals.{past-rungs}
 use Rattle.sheet.specs.declared.Entry.{Entry}
-use Rattle.sheet.specs.Edit.{cleared, rowOf, editOf}
-use Rattle.sheet.specs.laws.Stored.{length-rowOf, sound-rowOf, times-rowOf}
+use Rattle.sheet.specs.Edit.{rowOf, editOf}
+use Rattle.sheet.specs.laws.Stored.{length-rowOf, sound-rowOf}
+use Rattle.demands.specs.laws.Stored.{times-rowOf}
 use Rattle.demands.specs.Edits.{Edit, after, run, accepted, worked, lastRow, freshFrom, fresh, blanks, AllWorked}
 use Rattle.demands.specs.laws.Rows.{Good, Rows, none, more, rows-set}
 use Rattle.demands.specs.laws.Encoded.{answers, edit-rows}
@@ -137,7 +138,7 @@ rows-worked (w ∷ ws) (x, xs) =
 pub blanks-worked : (r : ℕ) → AllWorked (blanks r)
 unfolding rowOf
 blanks-worked zero = tt
-blanks-worked (suc r) = (record { entry = cleared; known = zero-le; is = refl }, blanks-worked r)
+blanks-worked (suc r) = (record { entry = record { function = 0; a = 0; b = 0; c = 0; times = 0 }; known = zero-le; is = refl }, blanks-worked r)
 
 -- ---- two edits to different rows
 cond-comm : (ws : List Row) (p q : Bool) (i j : ℕ) (x y : Row) → i ≢ j

@@ -12,7 +12,7 @@ use lib.Seq.{getD-set-same, getD-set-other, ext-getD}
 use Rattle.total.specs.Total.{N}
 use Rattle.ledger.specs.Sheet.{Row, classOf, unitsIn, retotal, count, counts, sum}
 use Rattle.ledger.specs.Calls.{plus, recount}
-use Rattle.ledger.specs.laws.Weights.{units-in-le}
+use Rattle.demands.specs.laws.Numbers.{units-in-le}
 use Rattle.ledger.specs.laws.Refusals.{class-lt, length-recount}
 use Rattle.demands.specs.laws.Rows.{Rows, none, more}
 

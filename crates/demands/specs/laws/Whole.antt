@@ -13,7 +13,7 @@ use lib.Ieee.{Float, round, binary64}
 use Rattle.total.specs.Total.{N, Half, complement, roundTotal}
 use Rattle.total.specs.laws.Limbs.{N-pos}
 use Rattle.ledger.specs.Sheet.{Row, mostRows, negativeIn, sizeIn, unitsIn, sum}
-use Rattle.ledger.specs.laws.Weights.{size-in-lt}
+use Rattle.demands.specs.laws.Numbers.{size-in-lt}
 use Rattle.demands.specs.Edits.{above, below}
 use Rattle.demands.specs.laws.Rows.{Good, Rows, none, more}
 

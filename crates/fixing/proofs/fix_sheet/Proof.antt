@@ -1,22 +1,27 @@
 -- A run from the sheet, or it is none.
-use mathlib.Core.Path.{sym, _∙_}
 use mir.Syntax.{w32}
 use mir.ValLaws.{toZ-ofZ}
+use Rattle.ledger.specs.laws.Refusals.{a-sheet, no-sheet}
+use Rattle.runner.specs.Done.{begunOf}
 use Rattle.fixing.specs.Fixed.{unfit, fixed}
 use borrow.Author.Needs.{needs}
 use Rattle.fixing.proofs.fix_sheet.Statement.{statement}
 use Rattle.fixing.proofs.fix_sheet.Tie as tie
 
-run-on-requires : tie.Need-run-on-requires
-run-on-requires c κs = search needs
+total-refusal-requires : tie.Need-total-refusal-requires
+total-refusal-requires c κs = search needs
+
+run-requires : tie.Need-run-requires
+run-requires c κs = search needs
 
 returns : tie.Need-returns
+unfolding begunOf
 returns c =
-    let s = c .before .before .before .before .before in
-    let on = c .before .run-on in
-    let input = toZ-ofZ w32 (s .args .input) (s .fits .input) in
-    let output = toZ-ofZ w32 (s .args .output) (s .fits .output) in
-    fixed (s .args .bytes .now) (s .pre) (sym (on .ensures .0) ∙ c .if1 .taken) (rw (input, output) at (on .ensures .1 (c .if1 .taken)))
+    let s = c .before .before .before .before .before .before in
+    let bytes = s .args .bytes .now in
+    let q = c .before .before .total-refusal in
+    let sheet = a-sheet bytes (q .result) (q .ensures) (c .before .if1 .taken) in
+    fixed bytes (s .pre) sheet (rw (toZ-ofZ w32 (s .args .input) (s .fits .input), toZ-ofZ w32 (s .args .output) (s .fits .output), sheet) at (c .run .ensures))
 
 slice-aggregate-tell : tie.Need-slice-aggregate-tell
 slice-aggregate-tell c = search needs
@@ -36,15 +41,17 @@ tell-cut-requires c κs = search needs
 returns-2 : tie.Need-returns-2
 returns-2 c =
     let s = c .before .before .before .before .before .before .before .before .before .before in
-    let on = c .before .before .before .before .before .before .run-on in
+    let bytes = s .args .bytes .now in
+    let q = c .before .before .before .before .before .before .total-refusal in
     let output = toZ-ofZ w32 (s .args .output) (s .fits .output) in
-    unfit (s .args .bytes .now) (c .before .refused-7 .result) (s .pre) (sym (on .ensures .0) ∙ c .before .before .before .before .before .if1 .left) (rw (c .before .before .begin .ensures, output) at (c .before .refused-7 .ensures))
+    unfit bytes (c .before .refused-7 .result) (s .pre) (no-sheet bytes (q .result) (q .ensures) (c .before .before .before .before .before .if1 .left)) (rw (c .before .before .begin .ensures, output) at (c .before .refused-7 .ensures))
 
 pub fix-sheet-spec : {M : Type 1} → statement M
 fix-sheet-spec =
     tie.close
     (tie.spec
-    run-on-requires
+    total-refusal-requires
+    run-requires
     returns
     slice-aggregate-tell
     tell-requires

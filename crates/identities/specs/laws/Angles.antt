@@ -24,7 +24,8 @@ use Rattle.angle.specs.Cosine.{cosineOf}
 use Rattle.identities.specs.laws.SineAnswered.{sine-answers, cosine-answers}
 use Rattle.incomplete.specs.declared.Fold.{Fold}
 use Rattle.incomplete.specs.Period.{foldedOf}
-use Rattle.whole.specs.laws.Magnitude.{magnitude-fin, magnitude-value, within, at-most-finite, at-most-size}
+use Rattle.whole.specs.laws.Magnitude.{magnitude-value}
+use Rattle.identities.specs.laws.Magnitude.{magnitude-fin, within, at-most-finite, at-most-size}
 use Rattle.identities.specs.laws.Cuts.{U, InReach, small-round, left-of, left-small}
 
 -- the f64 π is P / 2 ^ 48, π/2 is P / 2 ^ 49

@@ -25,7 +25,7 @@ use Rattle.answer.specs.Settle.{handedOf, unaskedOf}
 use Rattle.answer.specs.declared.Counted.{Counted}
 use Rattle.incomplete.specs.Period.{far-out, foldedOf}
 use Rattle.ellipeinc.specs.Ellipeinc.{signOf, itselfOf, farOf, lineOf, ownOf, withPeriodsOf, byRecipeOf, reducedOf, onSizeOf, countedOf, ellipeincOf}
-use Rattle.whole.specs.laws.Magnitude.{magnitude-nan, magnitude-neg}
+use Rattle.identities.specs.laws.Magnitude.{magnitude-nan, magnitude-neg}
 use Rattle.identities.specs.laws.Signs.{mul-neg}
 use Rattle.laws.specs.laws.Kinds.{differs-is}
 use Rattle.identities.specs.Turned.{turnOf, turnedOf}

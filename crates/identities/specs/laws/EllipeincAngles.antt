@@ -15,12 +15,14 @@ use lib.Ieee.Scale.{finite}
 use Rattle.laws.specs.Arithmetic.{_⊗_, _⊘_, _<·_, _≤·_, _≠·_, π, 4·0}
 use Rattle.laws.specs.laws.Kinds.{not-nan}
 use Rattle.laws.specs.laws.Rounding.{Near}
-use Rattle.whole.specs.Whole.{magnitudeOf, halfUp}
-use Rattle.whole.specs.laws.Meaning.{half-is, round-fraction}
+use Rattle.whole.specs.Whole.{magnitudeOf, roundOf, halfUp}
+use Rattle.whole.specs.laws.Wholes.{fraction}
+use Rattle.whole.specs.laws.Meaning.{round-picks}
+use Rattle.floor.specs.laws.Meaning.{half-is}
 use Rattle.incomplete.specs.Period.{far-out}
 use Rattle.identities.specs.laws.Angles.{P, small-le}
 use Rattle.ellipeinc.specs.Ellipeinc.{halfTurns, lineRest}
-use Rattle.whole.specs.laws.Magnitude.{magnitude-fin, within, within-size}
+use Rattle.identities.specs.laws.Magnitude.{magnitude-fin, within, within-size}
 use Rattle.laws.specs.laws.Operations.{mul-is}
 use Rattle.identities.specs.laws.Cuts.{U, Cut, cut, left-of, left-small}
 
@@ -94,7 +96,7 @@ line-small m e h =
     let M = halfUp (q .g) U in
     let n = half-near M (q .g) U (half-is (q .g) U H) in
     let w : M ≤ turns + 1 = whole-small turns (q .g) M U H (quot-small P Q reach turns a c (q .g) U (2 ^ 1072) C (lit< tt) (lit≤ tt) h refl (q .near .0)) (n .0) in
-    let v : HasValue mm false M 1 = subst (λ (x : Float). HasValue x false M 1) (sym (round-fraction (fin false m e ⊘ π) false (q .g) U H (q .value))) (round-whole binary64 false M (le-trans w (lit≤ tt))) in
+    let v : HasValue mm false M 1 = subst (λ (x : Float). HasValue x false M 1) (sym (fraction roundOf _ round-picks (fin false m e ⊘ π) false (q .g) U H (q .value))) (round-whole binary64 false M (le-trans w (lit≤ tt))) in
     let p : Cut (mm ⊗ π) false (M * P) (1 * Q) (2 ^ 1074) =
     subst (λ (x : Float). Cut x false (M * P) (1 * Q) (2 ^ 1074)) (sym (mul-is binary64 mm π false false M P 1 Q (lit< tt) (lit< tt) v (refl, refl)))
     (cut false (M * P) (1 * Q) 1074 (9007199254740992 * U) (lit< tt) refl (prod-fits P Q (turns + 1) 9007199254740992 M U H (lit< tt) w) (lit< tt)) in

@@ -18,7 +18,7 @@ use Rattle.answer.specs.declared.Answer.{Answer}
 use Rattle.answer.specs.declared.Answer.the-variants.{One, Pair, Infinite, Refused}
 use Rattle.angle.specs.Sine.{sineOf}
 use Rattle.angle.specs.Alternating.{squareOf, alternatingOf, upToFour}
-use Rattle.angle.specs.Cosine.{cosineAt, cosineOf}
+use Rattle.angle.specs.Cosine.{cosineBy, cosineAt, cosineOf}
 use Rattle.identities.specs.laws.Symmetry.{sine-odd, sine-zero, sine-minus-zero}
 use Rattle.legendre.specs.Ellipk.{kUncheckedOf}
 use Rattle.whole.specs.Whole.{magnitudeOf, roundOf}
@@ -38,7 +38,7 @@ use Rattle.laws.specs.laws.Kinds.{differs-is}
 use Rattle.incomplete.specs.Period.{far-out, foldedOf}
 use Rattle.incomplete.specs.Scaling.{λ4, largeOf}
 use Rattle.ellipf.specs.Ellipf.{signumOf, poleOf, farOf, middleOf, recipeOf, closedOf, withPeriodsOf, reducedOf, countedOf, ellipfOf}
-use Rattle.whole.specs.laws.Magnitude.{magnitude-inf, magnitude-fin, magnitude-neg}
+use Rattle.identities.specs.laws.Magnitude.{magnitude-inf, magnitude-fin, magnitude-neg}
 use Rattle.identities.specs.laws.Signs.{mul-neg, square-neg, plain, round-plain}
 use Rattle.identities.specs.laws.Odd.{same-kind, one-turned, after, rung, handed-odd}
 use Rattle.identities.specs.laws.Angles.{P, quarter, quarter-finite}
@@ -319,7 +319,7 @@ sine-of-zero true = sine-minus-zero
 sine-of-zero false = sine-zero
 
 cosine-of-zero : cosineOf +0 ≡ One 1·0
-unfolding cosineOf cosineAt upToFour squareOf alternatingOf ofBits round
+unfolding cosineOf cosineBy cosineAt upToFour squareOf alternatingOf ofBits round
 cosine-of-zero = refl
 
 folded-zero : foldedOf +0 ≡ record { angle = +0; mm = +0; s = 1·0 }

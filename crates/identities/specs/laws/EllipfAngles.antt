@@ -7,7 +7,7 @@ use lib.Ieee.{Float, fin}
 use lib.Ieee.Scale.{finite}
 use Rattle.laws.specs.Arithmetic.{_≤·_, _≠·_, π/2, 4·0}
 use Rattle.whole.specs.Whole.{magnitudeOf}
-use Rattle.whole.specs.laws.Magnitude.{magnitude-fin}
+use Rattle.identities.specs.laws.Magnitude.{magnitude-fin}
 use Rattle.identities.specs.laws.Angles.{quarter-small, quarter-finite}
 
 -- sine is asked before the reduction

@@ -13,7 +13,8 @@ use Rattle.laws.specs.Arithmetic.{_⊕_, _⊗_, 2·0}
 use Rattle.laws.specs.laws.Rounding.{grid-near, round-value}
 use Rattle.legendre.specs.Mean.{arithmeticOf, geometricOf}
 use Rattle.laws.specs.laws.Operations.{mul-is, div-is}
-use Rattle.legendre.specs.laws.Beneath.{Rooted, rooted, nearest-hi, nearest-lo}
+use Rattle.legendre.specs.laws.Beneath.{Rooted, rooted}
+use Rattle.identities.specs.laws.Nearest.{nearest-hi, nearest-lo}
 use Rattle.laws.specs.laws.Sizes.{units-same, grid-most, below-overflow}
 use Rattle.laws.specs.laws.Bounds.{Within, positive, add-plain, within-add, within-mul}
 use Rattle.legendre.specs.laws.Rounds.{arithmetic-within, geometric-within}

@@ -10,7 +10,7 @@ use Rattle.answer.specs.declared.Answer.the-variants.{One, Refused}
 use Rattle.bounds.specs.Close.{distanceOf}
 use Rattle.angle.specs.Alternating.{squareOf, alternatingOf, upToFour}
 use Rattle.angle.specs.Sine.{sineAt, sineOf}
-use Rattle.angle.specs.Cosine.{cosineAt, cosineOf}
+use Rattle.angle.specs.Cosine.{cosineBy, cosineAt, cosineOf}
 use Rattle.identities.specs.Turned.{turnOf}
 
 turned : (s b : Bool) → unlike (not s) b ≡ not (unlike s b)
@@ -37,7 +37,7 @@ sine-odd (fin s m e) = go (ltb (4 * down e) (m * up e))
     go false = ap One (sine-turned s (m * up e) (down e))
 
 pub cosine-even : (x : Float) → cosineOf (neg x) ≡ cosineOf x
-unfolding cosineOf upToFour cosineAt neg
+unfolding cosineOf upToFour cosineBy cosineAt neg
 cosine-even nan = refl
 cosine-even (inf s) = refl
 cosine-even (fin s m e) = refl

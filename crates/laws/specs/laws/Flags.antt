@@ -52,11 +52,6 @@ some-sum a p b P = go (ltb 0 b) (ltb 0 a) refl refl
     go false true e d = let h : 0 < a * p = mul-pos (some-of a d) P in is-some (a * p + b) (let z : 0 < a * p + b = omega arith in z)
     go false false e d = is-none (a * p + b) (le-of-eq ((λ i. none-of a d i * p + none-of b e i) ∙ (let z : 0 * p + 0 ≡ 0 = omega arith in z)))
 
--- the sign of a number that is not zero
-pub signed : (s : Bool) (n : ℕ) → 0 < n → (s && ltb 0 n) ≡ s
-signed true n h = is-some n h
-signed false n h = refl
-
 -- a difference has something left where its terms differ
 pub some-diff : (a b : ℕ) → b ≤ a → ltb 0 (a - b) ≡ ltb b a
 some-diff a b h = some-is (a - b) (ltb b a) (λ t. let x = ltb→lt b a t in let z : 0 < a - b = omega arith in z) (λ t. let x = nltb→le b a t in let z : a - b ≡ 0 = omega arith in z)

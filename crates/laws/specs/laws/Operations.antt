@@ -3,17 +3,14 @@ use mathlib.Core.Path.{_≡_, refl, sym, ap, ap₂, _∙_, subst}
 use mathlib.Core.Logic.{_⊎_, inl, inr}
 use mathlib.Core.Bool.{Bool, true, false, not, cond, Bool·beq}
 use Prim.Native.Nat.{ℕ, zero, suc, _+_, _-_, _*_, _≤_, _<_}
-use native.Mathlib.Nat.{le-of-lt, mul-assoc, mul-comm, mul-right-comm, mul-mul-mul-comm, mul-pos, one-mul, zero-mul, lt-irrefl, zero-lt-suc}
+use native.Mathlib.Nat.{le-of-lt, mul-assoc, mul-comm, mul-right-comm, mul-mul-mul-comm, mul-pos, zero-mul, lt-irrefl, zero-lt-suc}
 use native.Mathlib.Omega.{arith}
-use lib.Dec.{T, ltb, eqb, leb, ltb→lt, nltb→le, leb→le, nleb→lt, lit<, eqb·suc-zero}
-use lib.IntN.{pos}
-use lib.Ieee.{Float, nan, inf, fin, Format, binary64, fits, ofBits, up, down, unlike, round, sum, neg, add, sub, mul, div}
+use lib.Dec.{T, ltb, eqb, leb, ltb→lt, nltb→le, leb→le, nleb→lt, eqb·suc-zero}
+use lib.Ieee.{Float, nan, inf, fin, Format, up, down, unlike, round, sum, neg, add, sub, mul, div}
 use lib.Ieee.Digits.{back}
 use lib.Ieee.Fits.{up-pos, down-pos}
 use lib.Ieee.Exact.{HasValue}
 use lib.Ieee.Scale.{round-same}
-use Rattle.laws.specs.Arithmetic.{_⊗_, 1·0}
-use Rattle.laws.specs.laws.Exact.{round-of-value}
 use Rattle.laws.specs.laws.Sum.{sum-like, sum-unlike, sum-comm, sum-same}
 
 pub mul-is : (f : Format) (x y : Float) (s t : Bool) (a b c d : ℕ) → 0 < c → 0 < d → HasValue x s a c → HasValue y t b d → mul f x y ≡ round f (unlike s t) (a * b) (c * d)
@@ -113,18 +110,3 @@ difference-sum f a b c = go (ltb a b) (ltb→lt a b) (nltb→le a b)
 
 pub difference : (f : Format) (x y : Float) (a b c : ℕ) → 0 < c → HasValue x false a c → HasValue y false b c → Difference f (sub f x y) a b c
 difference f x y a b c C h k = subst (λ (z : Float). Difference f z a b c) (sym (sub-is f x y false false a b c C h k)) (difference-sum f a b c)
-
--- ---- 1 times an f64 is that f64
-pub one-times : (x : Float) → T (fits binary64 x) → 1·0 ⊗ x ≡ x
-unfolding mul ofBits
-one-times nan f = refl
-one-times (inf true) f = refl
-one-times (inf false) f = refl
-one-times (fin s m e) f = mul-is binary64 (fin false 1 (pos 0)) (fin s m e) false s 1 (m * up e) 1 (down e) (lit< tt) (down-pos e) (refl, refl) (refl, refl) ∙ round-of-value binary64 (fin s m e) (unlike false s) (1 * (m * up e)) (1 * down e) (mul-pos (lit< tt) (down-pos e)) f (value s)
-  where
-    size : m * up e * (1 * down e) ≡ 1 * (m * up e) * down e
-    size = (λ i. m * up e * one-mul (down e) i) ∙ (λ i. sym (one-mul (m * up e)) i * down e)
-
-    value : (s : Bool) → HasValue (fin s m e) (unlike false s) (1 * (m * up e)) (1 * down e)
-    value true = (refl, size)
-    value false = (refl, size)

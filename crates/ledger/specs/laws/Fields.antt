@@ -5,8 +5,7 @@ use Prim.Native.Nat.{ℕ, zero, suc, _+_, _*_, _/_, _^_, _≤_, _<_}
 use native.Mathlib.Nat.{mod-add-div, div-lt-iff-lt-mul, mul-suc, mul-zero, add-comm, pow-suc, mul-comm, mul-assoc}
 use native.Mathlib.Omega.{arith}
 use borrow.Author.Tests.{le-leb, lt-leb}
-use lib.ListN.{length, take, drop, getD, length-append}
-use lib.Seq.{take-at, drop-at}
+use lib.ListN.{length, take, drop, length-append}
 use Rattle.ledger.specs.Bytes.{bytes, number, fields, read, patternAt}
 
 -- ---- lengths
@@ -31,19 +30,6 @@ unfolding bytes number
 number-bytes zero n h = omega arith
 number-bytes (suc k) n h =
     rw (number-bytes k (n / 256) (div-lt-iff-lt-mul {k = 256} (omega arith) .1 (rw (← pow-suc 256 k) h))) (mod-add-div n 256)
-
-pub read-fields : (w : ℕ) (xs rest : List ℕ) → ((i : ℕ) → getD xs i 0 < 256 ^ w) → read w (length xs) (fields w xs ++ rest) ≡ xs
-unfolding read fields
-read-fields w [] rest h = refl
-read-fields w (x ∷ xs) rest h =
-    let e : (bytes w x ++ fields w xs) ++ rest ≡ bytes w x ++ (fields w xs ++ rest) = append-assoc (bytes w x) (fields w xs) rest in
-    rw (
-      e,
-      take-at (bytes w x) (fields w xs ++ rest) w (length-bytes w x),
-      drop-at (bytes w x) (fields w xs ++ rest) w (length-bytes w x),
-      number-bytes w x (h zero),
-      read-fields w xs rest (λ i. h (suc i)),
-    )
 
 -- ---- two parts are the first and then the second
 pub fields-append : (w : ℕ) (xs ys : List ℕ) → fields w (xs ++ ys) ≡ fields w xs ++ fields w ys

@@ -45,9 +45,6 @@ unfolding totals
 length-totals cs t h = rw (length-append, length-bytes, length-fields, length-append, h) refl
 
 -- ---- a sheet
-pub rows-of : (s : List ℕ) (r : ℕ) → length s ≡ sizeFor r → rowsIn s ≡ r
-unfolding rowsIn
-rows-of s r h = omega arith
 
 -- 48 bytes from where a row starts
 pub row-48 : (s : List ℕ) (i : ℕ) → rowPlace i + 48 ≤ length s → length (rowIn s i) ≡ 48

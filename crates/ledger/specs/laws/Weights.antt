@@ -1,32 +1,23 @@
--- A row's weight in the total: what the running total's calls make of it, and how far it can go. Assumes nothing.
+-- A row's weight in the total: what the running total's calls make of it. Assumes nothing.
 use mathlib.Core.Path.{_≡_, ap, _∙_}
 use mathlib.Core.Bool.{Bool, true, false, cond}
-use Prim.Native.Nat.{ℕ, _+_, _-_, _%_, _^_, _<_, _≤_}
-use native.Mathlib.Nat.{mod-lt, mod-add-mod, le-of-lt}
+use Prim.Native.Nat.{ℕ, _+_, _-_, _%_, _^_, _<_}
+use native.Mathlib.Nat.{mod-add-mod}
 use lib.Dec.{T, eqb}
 use lib.Ieee.{fits, binary64}
 use lib.Ieee.Bits.{ofBits-fits}
 use Rattle.laws.specs.Arithmetic.{+0}
-use Rattle.total.specs.Total.{N, complement, unitsOf, addOf, takeOf}
-use Rattle.total.specs.laws.Limbs.{N-pos}
-use Rattle.total.specs.laws.Units.{times-size-lt, taken-units}
-use Rattle.ledger.specs.Sheet.{Row, timesIn, firstIn, classOf, valueOf, negativeIn, sizeIn, unitsIn, retotal}
+use Rattle.total.specs.Total.{N, unitsOf, addOf, takeOf}
+use Rattle.total.specs.laws.Units.{taken-units}
+use Rattle.ledger.specs.Sheet.{Row, timesIn, firstIn, classOf, valueOf, sizeIn, unitsIn, retotal}
 
-value-fits : (w : Row) → T (fits binary64 (valueOf w))
+pub value-fits : (w : Row) → T (fits binary64 (valueOf w))
 unfolding valueOf firstIn
 value-fits w = go (eqb (classOf w) 1)
   where
     go : (b : Bool) → T (fits binary64 (cond b (firstIn w) +0))
     go true = ofBits-fits binary64 _
     go false = ofBits-fits binary64 0
-
-pub size-in-lt : (w : Row) → timesIn w < 2 ^ 16 → sizeIn w < 2 ^ 2114
-unfolding sizeIn
-size-in-lt w h = times-size-lt (timesIn w) (valueOf w) h (value-fits w)
-
-pub units-in-le : (w : Row) → unitsIn w ≤ N
-unfolding unitsIn
-units-in-le w = le-of-lt (mod-lt (complement (negativeIn w) (sizeIn w)) N-pos)
 
 -- the old row's value taken away as often as it was driven, and then the new one's added
 pub retotal-is : (t : ℕ) (o n : Row) → timesIn o < 2 ^ 16 → addOf (takeOf t (timesIn o) (valueOf o)) (timesIn n) (valueOf n) ≡ retotal t o n

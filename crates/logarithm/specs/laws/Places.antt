@@ -1,17 +1,16 @@
 -- x = 2^k f with 3/4 ≤ f < 3/2: an f64 is a whole number of units of 2^-1074, `places` gives such a k, and no other k does. Assumes nothing.
-use mathlib.Core.Path.{_≡_, refl, sym, ap, _∙_}
+use mathlib.Core.Path.{_≡_, sym, ap, _∙_}
 use mathlib.Core.Bool.{Bool, true, false, not, cond, _&&_}
-use Prim.Native.Nat.{ℕ, suc, _+_, _-_, _*_, _/_, _%_, _^_, _≤_, _<_}
-use native.Mathlib.Nat.{le-trans, lt-of-lt-of-le, lt-of-le-of-lt, le-of-eq, one-mul, mul-one, mul-assoc, mul-right-comm, mul-pos, zero-lt-suc, mul-le-mul-right, mul-lt-mul-of-pos-right, div-one, mul-div-cancel, le-div-iff-mul-le, div-lt-iff-lt-mul}
+use Prim.Native.Nat.{ℕ, suc, _+_, _-_, _*_, _%_, _^_, _≤_, _<_}
+use native.Mathlib.Nat.{le-trans, lt-of-lt-of-le, le-of-eq, one-mul, mul-right-comm, mul-pos, zero-lt-suc, mul-le-mul-right, mul-lt-mul-of-pos-right, le-div-iff-mul-le, div-lt-iff-lt-mul}
 use native.Mathlib.Omega.{arith}
-use lib.IntN.{ℤ, pos, negsuc}
-use lib.Dec.{T, ltb, leb, eqb, ltb→lt, nltb→le, leb→le, lit<}
+use lib.IntN.{ℤ}
+use lib.Dec.{T, ltb, leb, eqb, ltb→lt, nltb→le, leb→le}
 use lib.Pow.{pow-add, pow-mono, pow-pos}
 use lib.Ieee.{fin, binary64, up, down, size, fits}
 use lib.Ieee.Digits.{size-lt, size-reaches, size-le}
-use lib.Ieee.Exact.{HasValue}
 use lib.Ieee.Fits.{up-pos, down-pos, and-l, and-r}
-use Rattle.laws.specs.laws.Digits.{size-gt, pow-lt-back}
+use Rattle.laws.specs.laws.Digits.{size-gt}
 use Rattle.logarithm.specs.Series.{unitsOf, places}
 
 -- 3/4 ≤ N / 2^w < 3/2
@@ -74,19 +73,6 @@ module _ (s : Bool) (m : ℕ) (e : ℤ) (f : T (fits binary64 (fin s (suc m) e))
       let R = leb (down e) (2 ^ 1074) in
       let Z = ltb (suc m * up e) (2 ^ 1024 * down e) in
       (leb→le (down e) (2 ^ 1074) (and-r (P && Q) R (and-l (P && Q && R) Z f)), ltb→lt (suc m * up e) (2 ^ 1024 * down e) (and-r (P && Q && R) Z f))
-
-  pub units-value : HasValue (fin s (suc m) e) s (unitsOf (fin s (suc m) e)) (2 ^ 1074)
-  unfolding unitsOf
-  units-value = (refl, sym (whole (suc m * up e) e (inside .0)))
-    where
-      whole : (a : ℕ) (e : ℤ) → down e ≤ 2 ^ 1074 → a * 2 ^ 1074 / down e * down e ≡ a * 2 ^ 1074
-      whole a (pos k) h = mul-one (a * 2 ^ 1074 / 1) ∙ div-one (a * 2 ^ 1074)
-      whole a (negsuc k) h =
-          let l : suc k < 1075 = pow-lt-back (suc k) 1075 (lt-of-le-of-lt h (lit< tt)) in
-          let j = 1074 - suc k in
-          let b : 1074 ≡ j + suc k = omega arith in
-          let d : a * 2 ^ 1074 ≡ a * 2 ^ j * 2 ^ suc k = ap (λ (x : ℕ). a * 2 ^ x) b ∙ ap (λ (x : ℕ). a * x) (pow-add 2 j (suc k)) ∙ sym (mul-assoc a (2 ^ j) (2 ^ suc k)) in
-          ap (λ (x : ℕ). x * 2 ^ suc k) (ap (λ (x : ℕ). x / 2 ^ suc k) d ∙ mul-div-cancel (a * 2 ^ j) (pow-pos (suc k))) ∙ sym d
 
   pub units-pos : 0 < unitsOf (fin s (suc m) e)
   unfolding unitsOf

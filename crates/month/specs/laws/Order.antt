@@ -16,7 +16,8 @@ use lib.Ieee.Scale.{finite}
 use Rattle.laws.specs.Arithmetic.{float, _<·_}
 use Rattle.laws.specs.laws.Flags.{lt-or-le}
 use Rattle.total.specs.Total.{negative, sizeOf}
-use Rattle.total.specs.laws.Units.{whole, size-lt}
+use Rattle.total.specs.laws.Units.{size-lt}
+use Rattle.exact.specs.laws.Units.{whole}
 use Rattle.month.specs.Month.{beyond}
 
 -- ---- a place for each signed number

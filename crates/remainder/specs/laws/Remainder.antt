@@ -1,22 +1,20 @@
--- What the remainder's definition means: it is lib.Ieee's own `rem` for every two f64, and it is exact. Assumes nothing.
+-- What the remainder's definition means: it is lib.Ieee's own `rem` for every two f64. Assumes nothing.
 use mathlib.Core.Path.{_≡_, refl, sym, ap, _∙_, subst}
 use mathlib.Core.Bool.{Bool, true, false, cond}
-use mathlib.Core.Logic.{_⊎_, inl, inr}
 use Prim.Native.Nat.{ℕ, zero, suc, _+_, _-_, _*_, _/_, _%_, _^_, _≤_, _<_}
-use native.Mathlib.Nat.{le-of-eq, le-of-lt, lt-trans, lt-of-le-of-lt, lt-of-lt-of-le, lt-irrefl, lt-of-mul-lt-mul-right, mod-le, mul-one, mul-assoc, mul-right-comm, mul-pos, mul-div-cancel, add-mul, div-add-mod', mod-lt, mul-lt-mul-of-pos-right, zero-lt-suc, zero-mul}
+use native.Mathlib.Nat.{lt-of-le-of-lt, lt-irrefl, mul-one, mul-assoc, mul-right-comm, mul-pos, mul-div-cancel, add-mul, div-add-mod', mod-lt, mul-lt-mul-of-pos-right, zero-lt-suc, zero-mul}
 use native.Mathlib.Omega.{arith}
 use lib.Arith.{digits-mod}
 use lib.Dec.{T, eqb, eqb→eq, lit<}
 use lib.IntN.{ℤ, pos, negsuc}
 use lib.Pow.{pow-add, pow-pos, pow-lt}
 use lib.Ieee.{Float, nan, inf, fin, binary64, up, down, round, rem, fits}
-use lib.Ieee.Exact.{HasValue, round-exact}
+use lib.Ieee.Exact.{HasValue}
 use lib.Ieee.Fits.{up-pos, down-pos}
 use lib.Ieee.Scale.{round-same}
 use Rattle.laws.specs.Arithmetic.{_%%_}
 use Rattle.laws.specs.laws.Digits.{pow-lt-back}
 use Rattle.laws.specs.laws.Exact.{fits-bounds}
-use Rattle.laws.specs.laws.Flags.{lt-or-le}
 use Rattle.remainder.specs.Remainder.{unitsOf, remainderOf}
 
 -- ---- whole numbers
@@ -26,8 +24,11 @@ mod-scaled a b c B C =
     (ap (λ (n : ℕ). n * c) (sym (div-add-mod' a b)) ∙ add-mul (a / b * b) (a % b) c ∙ ap (λ (n : ℕ). n + a % b * c) (mul-assoc (a / b) b c))
     ∙ digits-mod (a / b) (mul-lt-mul-of-pos-right (mod-lt a B) C)
 
+pub moved : (m i j : ℕ) → j ≤ i → m * 2 ^ i ≡ m * 2 ^ (i - j) * 2 ^ j
+moved m i j h = ap (λ (n : ℕ). m * n) (ap (λ (n : ℕ). 2 ^ n) (let z : i ≡ (i - j) + j = omega arith in z) ∙ pow-add 2 (i - j) j) ∙ sym (mul-assoc m (2 ^ (i - j)) (2 ^ j))
+
 -- ---- of values that are written as fractions with one denominator
-units-are : (m : ℕ) (e : ℤ) (a : ℕ) → m * up e * 2 ^ 1074 ≡ a * down e → unitsOf m e ≡ a
+pub units-are : (m : ℕ) (e : ℤ) (a : ℕ) → m * up e * 2 ^ 1074 ≡ a * down e → unitsOf m e ≡ a
 unfolding unitsOf
 units-are m e a h = ap (λ (n : ℕ). n / down e) h ∙ mul-div-cancel a (down-pos e)
 
@@ -71,12 +72,12 @@ rem-at (fin r m e) (fin u (suc n) d) s t a b c B C hx hy =
         ∙ mod-scaled a b D B (mul-pos (down-pos e) (down-pos d))
 
 -- ---- every f64 is a whole number of units
-record Written (m : ℕ) (e : ℤ) : Type 0 where
-  place : ℕ
-  is : m * up e * 2 ^ 1074 ≡ m * 2 ^ place * down e
-  digits : m < 2 ^ 53
+pub record Written (m : ℕ) (e : ℤ) : Type 0 where
+  pub place : ℕ
+  pub is : m * up e * 2 ^ 1074 ≡ m * 2 ^ place * down e
+  pub digits : m < 2 ^ 53
 
-none : (e : ℤ) → 0 * up e * 2 ^ 1074 ≡ 0 * 2 ^ 0 * down e
+pub none : (e : ℤ) → 0 * up e * 2 ^ 1074 ≡ 0 * 2 ^ 0 * down e
 none e = ap (λ (n : ℕ). n * 2 ^ 1074) (zero-mul (up e)) ∙ zero-mul (2 ^ 1074) ∙ sym (zero-mul (down e))
 
 whole : (l m k : ℕ) → suc k ≤ l → m * 1 * 2 ^ l ≡ m * 2 ^ (l - suc k) * 2 ^ suc k
@@ -85,7 +86,7 @@ whole l m k h =
     ∙ ap (λ (n : ℕ). m * n) (ap (λ (n : ℕ). 2 ^ n) (let z : l ≡ (l - suc k) + suc k = omega arith in z) ∙ pow-add 2 (l - suc k) (suc k))
     ∙ sym (mul-assoc m (2 ^ (l - suc k)) (2 ^ suc k))
 
-written : (s : Bool) (m : ℕ) (e : ℤ) → T (fits binary64 (fin s m e)) → Written m e
+pub written : (s : Bool) (m : ℕ) (e : ℤ) → T (fits binary64 (fin s m e)) → Written m e
 written s zero e f = record { place = 0; is = none e; digits = pow-pos 53 }
 written s (suc m) (pos k) f = record {
   place = k + 1074;
@@ -99,13 +100,13 @@ written s (suc m) (negsuc k) f =
     below : (k : ℕ) → k < 1075 → k ≤ 1074
     below k h = omega arith
 
-units-written : (m : ℕ) (e : ℤ) (w : Written m e) → unitsOf m e ≡ m * 2 ^ (w .place)
+pub units-written : (m : ℕ) (e : ℤ) (w : Written m e) → unitsOf m e ≡ m * 2 ^ (w .place)
 units-written m e w = units-are m e (m * 2 ^ (w .place)) (w .is)
 
 pub has-units : (s : Bool) (m : ℕ) (e : ℤ) → T (fits binary64 (fin s m e)) → HasValue (fin s m e) s (unitsOf m e) (2 ^ 1074)
 has-units s m e f = let w = written s m e f in (refl, w .is ∙ ap (λ (n : ℕ). n * down e) (sym (units-written m e w)))
 
-some-units : (s : Bool) (n : ℕ) (d : ℤ) → T (fits binary64 (fin s (suc n) d)) → 0 < unitsOf (suc n) d
+pub some-units : (s : Bool) (n : ℕ) (d : ℤ) → T (fits binary64 (fin s (suc n) d)) → 0 < unitsOf (suc n) d
 some-units s n d f = let w = written s (suc n) d f in subst (λ (u : ℕ). 0 < u) (sym (units-written (suc n) d w)) (mul-pos (zero-lt-suc n) (pow-pos (w .place)))
 
 -- ---- the law: lib.Ieee's own remainder
@@ -122,50 +123,3 @@ remainder-is (fin s m e) (fin t (suc n) d) f g =
     let hy = has-units t (suc n) d g in
     remainder-at (fin s m e) (fin t (suc n) d) s t (unitsOf m e) (unitsOf (suc n) d) B hx hy
     ∙ sym (rem-at (fin s m e) (fin t (suc n) d) s t (unitsOf m e) (unitsOf (suc n) d) (2 ^ 1074) B (pow-pos 1074) hx hy)
-
--- ---- the law: it is exact, since what is left has no more digits than x or y
-record Left (m i n j : ℕ) : Type 0 where
-  digits : ℕ
-  place : ℕ
-  is : m * 2 ^ i % (n * 2 ^ j) ≡ digits * 2 ^ place
-  few : digits < 2 ^ 53
-
-pub moved : (m i j : ℕ) → j ≤ i → m * 2 ^ i ≡ m * 2 ^ (i - j) * 2 ^ j
-moved m i j h = ap (λ (n : ℕ). m * n) (ap (λ (n : ℕ). 2 ^ n) (let z : i ≡ (i - j) + j = omega arith in z) ∙ pow-add 2 (i - j) j) ∙ sym (mul-assoc m (2 ^ (i - j)) (2 ^ j))
-
-left : (m i n j : ℕ) → m < 2 ^ 53 → n < 2 ^ 53 → 0 < n → Left m i n j
-left m i n j a b c = go (lt-or-le i j)
-  where
-    go : (i < j) ⊎ (j ≤ i) → Left m i n j
-    go (inl h) = record {
-      digits = m % (n * 2 ^ (j - i));
-      place = i;
-      is = ap (λ (y : ℕ). m * 2 ^ i % y) (moved n j i (le-of-lt h)) ∙ mod-scaled m (n * 2 ^ (j - i)) (2 ^ i) (mul-pos c (pow-pos (j - i))) (pow-pos i);
-      few = lt-of-le-of-lt (mod-le m (n * 2 ^ (j - i))) a;
-    }
-    go (inr h) = record {
-      digits = m * 2 ^ (i - j) % n;
-      place = j;
-      is = ap (λ (x : ℕ). x % (n * 2 ^ j)) (moved m i j h) ∙ mod-scaled (m * 2 ^ (i - j)) n (2 ^ j) c (pow-pos j);
-      few = lt-trans (mod-lt (m * 2 ^ (i - j)) c) b;
-    }
-
-in-range : (s : Bool) (m : ℕ) (e : ℤ) → T (fits binary64 (fin s m e)) → unitsOf m e < 2 ^ 2098
-in-range s zero e f = lt-of-le-of-lt (le-of-eq (units-are 0 e 0 (none e))) (pow-pos 2098)
-in-range s (suc m) e f =
-    lt-of-mul-lt-mul-right (down e)
-    (lt-of-le-of-lt (le-of-eq (sym (has-units s (suc m) e f .1)))
-    (lt-of-lt-of-le (mul-lt-mul-of-pos-right (fits-bounds binary64 s m e f .2) (pow-pos 1074)) (le-of-eq (mul-right-comm (2 ^ 1024) (down e) (2 ^ 1074) ∙ ap (λ (n : ℕ). n * down e) (sym (pow-add 2 1024 1074))))))
-
-pub remainder-exact : (s : Bool) (m : ℕ) (e : ℤ) (t : Bool) (n : ℕ) (d : ℤ) → T (fits binary64 (fin s m e)) → T (fits binary64 (fin t (suc n) d))
-    → HasValue (remainderOf (fin s m e) (fin t (suc n) d)) s (unitsOf m e % unitsOf (suc n) d) (2 ^ 1074)
-remainder-exact s m e t n d f g =
-    let v = written s m e f in
-    let w = written t (suc n) d g in
-    let l = left m (v .place) (suc n) (w .place) (v .digits) (w .digits) (zero-lt-suc n) in
-    let rest : unitsOf m e % unitsOf (suc n) d ≡ l .digits * 2 ^ (l .place) = (λ i. units-written m e v i % units-written (suc n) d w i) ∙ l .is in
-    subst (λ (r : Float). HasValue r s (unitsOf m e % unitsOf (suc n) d) (2 ^ 1074))
-    (sym (remainder-at (fin s m e) (fin t (suc n) d) s t (unitsOf m e) (unitsOf (suc n) d) (some-units t n d g) (has-units s m e f) (has-units t (suc n) d g)))
-    (round-exact binary64 s (unitsOf m e % unitsOf (suc n) d) (2 ^ 1074) (l .digits) (l .place) (pow-pos 1074) (l .few)
-    (lt-of-le-of-lt (le-of-eq (sym rest)) (lt-of-le-of-lt (mod-le (unitsOf m e) (unitsOf (suc n) d)) (in-range s m e f)))
-    (ap (λ (x : ℕ). x * 2 ^ 1074) rest))

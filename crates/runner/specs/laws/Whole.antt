@@ -12,17 +12,18 @@ use lib.ListN.{length, take, length-append}
 use lib.Dec.{ltb, eqb}
 use borrow.Author.Tests.{ltb-true, not-true, lt-ltb, ne-eqb}
 use Rattle.io.specs.Counts.{clamped}
-use Rattle.page.specs.Page.{failedLine}
+use Rattle.ledger.specs.Calls.{rowsIn, isSheetOf, isSheet}
+use Rattle.page.specs.Page.{failedLine, pageOf}
 use Rattle.ending.specs.declared.outcome.State.{State}
 use Rattle.ending.specs.Outcome.{Outcome, Start, Sheet, Bad, endedOf, printed, textOf}
-use Rattle.runner.specs.Run.{joined, linesOf, ranOf}
+use Rattle.runner.specs.Run.{joined, linesOf, ranOf, runOf}
 use Rattle.runner.specs.Machine.{Room, room, feedOf, feedAll, finishOf, outcomeOf, Begins}
 use Rattle.runner.specs.laws.Law.{program-law, stopped-law}
 use Rattle.runner.specs.laws.Parts.{taken-law}
 use Rattle.files.specs.Calls.{Read}
 use Rattle.files.specs.Reads.{broughtOf, failedOf, inputOf}
 use Rattle.runner.specs.Reads.{goesOn, Next, Reads, last, go-on, spent}
-use Rattle.runner.specs.Done.{allTaken, Ran, saves}
+use Rattle.runner.specs.Done.{begunOf, allTaken, Ran, saves}
 use Rattle.runner.specs.Program.{lineEnds, writtenOf, sheetIn, savedOf}
 use Rattle.runner.specs.laws.Lines.{counted}
 
@@ -201,3 +202,13 @@ saves-law o {st} {m} {failed} r filed few = ap (λ (t : Bool). filed && t) (by f
       → (not t && (not (st .bad) && not (eqb (st .lines) 0))) ≡ (not t && (sheetIn (ranOf o input) && ltb 0 (length (linesOf input))))
   by true e = refl
   by false e = good e (st .bad) refl
+
+-- ---- legsheet is given no bytes: it begins with no sheet, and where no read fails it writes the run of its input
+
+pub begins-with-none : begunOf [] ≡ Start
+unfolding begunOf isSheet isSheetOf rowsIn
+begins-with-none = refl
+
+pub run-law : (input : List ℕ) → writtenOf pageOf (begunOf []) false input ≡ runOf input
+unfolding writtenOf runOf
+run-law input = ap (λ (o : Outcome). printed pageOf (ranOf o input)) begins-with-none

@@ -23,7 +23,8 @@ use Rattle.laws.specs.laws.Operations.{add-is, div-is}
 use Rattle.laws.specs.laws.Rounding.{round-value, units-over}
 use Rattle.laws.specs.laws.Sizes.{grid-least, finite-of}
 use Rattle.whole.specs.Whole.{magnitudeOf}
-use Rattle.whole.specs.laws.Magnitude.{magnitude-value, within, within-size}
+use Rattle.whole.specs.laws.Magnitude.{magnitude-value}
+use Rattle.identities.specs.laws.Magnitude.{within, within-size}
 use Rattle.answer.specs.Settle.{infiniteOf}
 use Rattle.incomplete.specs.Scaling.{huge, largeOf}
 use Rattle.ellipeinc.specs.Ellipeinc.{cancelling}

@@ -20,7 +20,7 @@ use Rattle.laws.specs.laws.Operations.{difference, gap-most}
 use Rattle.laws.specs.laws.Rounding.{round-value}
 use Rattle.laws.specs.laws.Sizes.{grid-mono}
 use Rattle.whole.specs.Whole.{magnitudeOf, roundOf}
-use Rattle.whole.specs.laws.Magnitude.{magnitude-fin}
+use Rattle.identities.specs.laws.Magnitude.{magnitude-fin}
 use Rattle.incomplete.specs.declared.Fold.{Fold}
 use Rattle.incomplete.specs.Period.{foldedOf}
 use Rattle.ellipeinc.specs.Ellipeinc.{ownOf}

@@ -21,7 +21,7 @@ use Rattle.answer.specs.declared.Answer.{Answer}
 use Rattle.bounds.specs.Close.{distanceOf}
 use Rattle.angle.specs.Alternating.{squareOf, alternatingOf}
 use Rattle.angle.specs.Sine.{sineAt, sineOf}
-use Rattle.angle.specs.Cosine.{cosineAt, cosineOf}
+use Rattle.angle.specs.Cosine.{cosineBy, cosineAt, cosineOf}
 use Rattle.identities.specs.laws.SineAnswered.{sine-answers, cosine-answers}
 use Rattle.identities.specs.laws.Angles.{in-reach, in-reach-size}
 use Rattle.scaling.specs.laws.Ranges.{Ranged, ranged-round, within-square}
@@ -79,7 +79,7 @@ whole zero = inl refl
 whole (suc d) = inr (zero-lt-suc d)
 
 cosine-sized : (s : Bool) (p q : ℕ) → p ≤ 4 * q → (t : Bool) × Ranged t 1014 1158 (cosineAt s p q)
-unfolding cosineAt
+unfolding cosineBy cosineAt
 cosine-sized s p q h =
     let b = alternatingOf (squareOf p q) 0 21 in
     let d = distanceOf (b .added) (b .taken) in

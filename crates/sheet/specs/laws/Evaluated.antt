@@ -9,7 +9,7 @@ use lib.Dec.{T, leb, eqb, leb→le, nleb→lt, lit≤}
 use lib.Ieee.{isNan, fits, binary64, ofBits}
 use lib.Ieee.Bits.{ofBits-fits}
 use Rattle.laws.specs.Arithmetic.{float, +0, 1·0, _=·_}
-use Rattle.answer.specs.Answer.{refusalOf, firstOf, secondOf, valueOf}
+use Rattle.answer.specs.Answer.{refusalOf, firstOf, valueOf}
 use Rattle.answer.specs.Numbers.{last, stored}
 use Rattle.answer.specs.Sound.{Sound}
 use Rattle.answer.specs.laws.Sound as sound
@@ -96,11 +96,7 @@ pub never-nan : (f a b c : ℕ) → isNan (firstOf (evaluateOf f a b c)) ≡ fal
 unfolding firstOf isNan ofBits
 never-nan = each (λ z. isNan (firstOf z) ≡ false) sound.never-nan refl
 
--- both answers are f64
+-- and each is an f64
 pub fits-first : (f a b c : ℕ) → T (fits binary64 (firstOf (evaluateOf f a b c)))
 unfolding firstOf
 fits-first = each (λ z. T (fits binary64 (firstOf z))) sound.fits-first (ofBits-fits binary64 0)
-
-pub fits-second : (f a b c : ℕ) → T (fits binary64 (secondOf (evaluateOf f a b c)))
-unfolding secondOf
-fits-second = each (λ z. T (fits binary64 (secondOf z))) sound.fits-second (ofBits-fits binary64 0)

@@ -1,11 +1,10 @@
--- A row that an edit stores: 48 bytes that read back as its function, refusal number, times and first answer. Assumes nothing.
+-- A row that an edit stores: 48 bytes that read back as its function, refusal number and first answer. Assumes nothing.
 use mathlib.Core.Path.{_≡_, refl, ap, _∙_, sym}
 use mathlib.Core.Bool.{Bool, true, false, cond}
 use mathlib.Core.List.{List}
-use Prim.Native.Nat.{ℕ, _^_, _≤_, _<_}
-use borrow.Author.Tests.{le-leb, ne-eqb, eqb-true}
-use native.Mathlib.Omega.{arith}
-use lib.Dec.{T, eqb, lit<}
+use Prim.Native.Nat.{ℕ, _≤_}
+use borrow.Author.Tests.{le-leb, eqb-true}
+use lib.Dec.{T, eqb}
 use lib.ListN.{length, take, drop}
 use lib.Ieee.{isNan, ofBits, toBits, binary64}
 use lib.Ieee.Bits.{toBits-lt}
@@ -15,7 +14,7 @@ use Rattle.answer.specs.Answer.{refusalOf, firstOf}
 use Rattle.answer.specs.Numbers.{last, stored}
 use Rattle.sheet.specs.laws.Evaluated.{stored-refusal, never-nan, fits-first}
 use Rattle.ledger.specs.Bytes.{bytes, number, fields}
-use Rattle.ledger.specs.Sheet.{Row, rowBytes, blankRow, functionIn, refusalIn, timesIn, firstIn, soundOf, sound}
+use Rattle.ledger.specs.Sheet.{Row, rowBytes, blankRow, functionIn, refusalIn, firstIn, soundOf, sound}
 use Rattle.ledger.specs.laws.Fields.{number-bytes}
 use Rattle.sheet.specs.declared.Entry.{Entry}
 use Rattle.sheet.specs.Edit.{keptOf, answerOf, answered, rowOf}
@@ -27,24 +26,20 @@ module _ (e : Entry) where
   unfolding answered rowBytes fields bytes
   length-answered = refl
 
-  function-answered : functionIn (answered e) ≡ e .function
+  pub function-answered : functionIn (answered e) ≡ e .function
   unfolding functionIn answered rowBytes
   function-answered = refl
 
-  refusal-answered : refusalIn (answered e) ≡ refusalOf (answerOf e)
+  pub refusal-answered : refusalIn (answered e) ≡ refusalOf (answerOf e)
   unfolding refusalIn answered rowBytes
   refusal-answered = refl
-
-  times-answered : timesIn (answered e) ≡ number (bytes 2 (e .times))
-  unfolding timesIn answered rowBytes bytes
-  times-answered = refl
 
   -- the word at place 32
   fifth : take 8 (drop 32 (answered e)) ≡ bytes 8 (toBits binary64 (firstOf (answerOf e)))
   unfolding answered rowBytes fields bytes
   fifth = refl
 
-  first-answered : firstIn (answered e) ≡ firstOf (answerOf e)
+  pub first-answered : firstIn (answered e) ≡ firstOf (answerOf e)
   unfolding firstIn
   first-answered =
       let x = firstOf (answerOf e) in
@@ -75,7 +70,7 @@ sound-blank = refl
 
 -- what holds of the blank row, where it is one, and of a function's row, holds of an edit's
 module _ (e : Entry) where
-  either : (P : Row → Type 0) → (e .function ≡ 0 → P blankRow) → P (answered (keptOf e)) → P (rowOf e)
+  pub either : (P : Row → Type 0) → (e .function ≡ 0 → P blankRow) → P (answered (keptOf e)) → P (rowOf e)
   unfolding rowOf
   either P p q = go (eqb (e .function) 0) refl
     where
@@ -93,28 +88,3 @@ module _ (e : Entry) where
   pub sound-rowOf : e .function ≤ last → sound (rowOf e) ≡ true
   unfolding keptOf
   sound-rowOf h = either (λ (w : Row). sound w ≡ true) (λ z. sound-blank) (sound-answered (keptOf e) h)
-
--- two bytes
-times-small : (k : ℕ) → number (bytes 2 k) < 2 ^ 16
-unfolding number bytes
-times-small k = omega arith
-
-pub times-rowOf : (e : Entry) → timesIn (rowOf e) < 2 ^ 16
-unfolding keptOf timesIn number
-times-rowOf e = either e (λ (w : Row). timesIn w < 2 ^ 16) (λ h. lit< tt) (rw (times-answered (keptOf e)) (times-small (e .times)))
-
--- what a stored row says, for a function that is not 0
-pub record Says (e : Entry) (w : Row) : Type 0 where
-  pub function : functionIn w ≡ e .function
-  pub times : e .times < 2 ^ 16 → timesIn w ≡ e .times
-  pub refusal : refusalIn w ≡ refusalOf (answerOf (keptOf e))
-  pub first : firstIn w ≡ firstOf (answerOf (keptOf e))
-
-pub says : (e : Entry) → (e .function ≡ 0 → ⊥) → Says e (rowOf e)
-unfolding rowOf keptOf
-says e h = rw (ne-eqb (e .function) 0 h) (record {
-  function = function-answered (keptOf e);
-  times = λ h. times-answered (keptOf e) ∙ number-bytes 2 (e .times) h;
-  refusal = refusal-answered (keptOf e);
-  first = first-answered (keptOf e);
-})

@@ -1,7 +1,7 @@
 -- How pieces of text follow each other in a buffer. Assumes nothing.
 use mathlib.Core.Path.{_≡_, refl, sym, ap, _∙_}
-use Prim.Native.Nat.{ℕ, _+_, _-_, _≤_, _<_}
-use native.Mathlib.Nat.{add-zero, zero-add, sub-zero}
+use Prim.Native.Nat.{ℕ, _+_, _≤_, _<_}
+use native.Mathlib.Nat.{add-zero, zero-add}
 use native.Mathlib.Numerals.{add-one}
 use native.Mathlib.Omega.{arith}
 use mathlib.Core.List.{List, [], _∷_, _++_}
@@ -40,10 +40,6 @@ pub front : {out new text : List ℕ} {n : ℕ} → Put out new 0 n text → tak
 front {out = out} {text = text} {n = n} put =
     let e : n ≡ length text = put .next ∙ zero-add (length text) in
     ap (take n) (put .bytes) ∙ take-at text (drop (0 + length text) out) n (sym e)
-
--- and in the part that is lent from there on
-pub front-part : {out new text : List ℕ} {n : ℕ} → Put out new 0 n text → take (n - 0) new ≡ text
-front-part {n = n} put = rw (sub-zero n) (front put)
 
 -- ---- where there is room, and where there is none
 module _ (s : List ℕ) (a room : ℕ) (text : List ℕ) where

@@ -1,18 +1,18 @@
--- A value in units of 2^-1074: a whole number for every f64, far below N however often it is counted, and undone by its opposite. Assumes nothing.
+-- A value in units of 2^-1074: far below N however often it is counted, and undone by its opposite. Assumes nothing.
 use mathlib.Core.Path.{_≡_, refl, ap, _∙_, sym}
 use mathlib.Core.Bool.{Bool, true, false, not, _&&_}
 use Prim.Native.Nat.{ℕ, zero, suc, _+_, _*_, _^_, _%_, _/_, _-_, _<_, _≤_}
-use native.Mathlib.Nat.{sub-zero, mod-self, zero-mod, add-mod, mod-add-mod, add-mod-mod, mul-div-cancel, div-lt-iff-lt-mul, div-one, lt-of-lt-of-le, lt-of-le-of-lt, lt-irrefl, le-of-lt, le-trans, le-of-eq, mul-one, mul-zero, mul-assoc, mul-right-comm, mul-pos, zero-mul, mul-le-mul-right, mul-lt-mul-of-pos-left, mul-lt-mul-of-pos-right, add-assoc, add-zero, div-add-mod, mod-lt}
+use native.Mathlib.Nat.{sub-zero, mod-self, zero-mod, add-mod, mul-div-cancel, div-lt-iff-lt-mul, lt-of-lt-of-le, lt-of-le-of-lt, le-of-lt, le-trans, le-of-eq, mul-zero, mul-right-comm, mul-pos, zero-mul, mul-le-mul-right, mul-lt-mul-of-pos-left, mul-lt-mul-of-pos-right, add-zero, div-add-mod, mod-lt}
 use native.Mathlib.Omega.{arith}
 use lib.Dec.{T, ltb, leb, eqb, ltb→lt, leb→le, eqb→eq, lit≤}
-use lib.IntN.{ℤ, pos, negsuc}
-use lib.Pow.{pow-pos, pow-add, pow-mono, pow-lt}
+use lib.IntN.{ℤ}
+use lib.Pow.{pow-pos, pow-add, pow-mono}
 use lib.Ieee.{Float, nan, inf, fin, up, down, neg, fits, binary64}
 use lib.Ieee.Fits.{and-l, and-r, down-pos}
 use lib.Ieee.Exact.{HasValue}
 use lib.Ieee.Scale.{finite}
 use Rattle.total.specs.laws.Limbs.{N-pos, same-mod}
-use Rattle.total.specs.Total.{N, complement, negative, sizeOf, unitsOf, addOf, takeOf}
+use Rattle.total.specs.Total.{N, complement, negative, sizeOf, unitsOf, takeOf}
 
 -- ---- a value that is a whole number of units
 pub size-value : (x : Float) (s : Bool) (a : ℕ) → HasValue x s a (2 ^ 1074) → sizeOf x ≡ a
@@ -52,20 +52,9 @@ units-none k nan h = (times-nothing k false, times-nothing k false)
 units-none k (inf s) h = (times-nothing k false, times-nothing k false)
 units-none k (fin s m e) h = let z : _≡_ {A = ℕ} 0 1 = cc in absurd (omega arith)
 
--- ---- every f64 is a whole number of units, below 2^2098
-pow-back : (i j : ℕ) → 2 ^ i ≤ 2 ^ j → i ≤ j
-pow-back i j h = let g : suc j ≤ i → ⊥ = λ l. lt-irrefl (2 ^ j) (lt-of-lt-of-le (pow-lt {i = j} {j = suc j} (le-of-eq refl)) (le-trans (pow-mono l) h)) in omega arith
+-- ---- every f64 has fewer than 2^2098 units
 
-divides : (m : ℕ) (e : ℤ) → down e ≤ 2 ^ 1074 → m * up e * 2 ^ 1074 / down e * down e ≡ m * up e * 2 ^ 1074
-divides m (pos k) h = mul-one (m * 2 ^ k * 2 ^ 1074 / 1) ∙ div-one (m * 2 ^ k * 2 ^ 1074)
-divides m (negsuc k) h =
-    let l : suc k ≤ 1074 = pow-back (suc k) 1074 h in
-    let j = 1074 - suc k in
-    let e : 2 ^ 1074 ≡ 2 ^ j * 2 ^ suc k = ap (λ (n : ℕ). 2 ^ n) (let z : 1074 ≡ j + suc k = omega arith in z) ∙ pow-add 2 j (suc k) in
-    let g : m * 1 * 2 ^ 1074 ≡ m * 1 * 2 ^ j * 2 ^ suc k = ap (λ (n : ℕ). m * 1 * n) e ∙ sym (mul-assoc (m * 1) (2 ^ j) (2 ^ suc k)) in
-    ap (λ (n : ℕ). n / 2 ^ suc k * 2 ^ suc k) g ∙ ap (λ (n : ℕ). n * 2 ^ suc k) (mul-div-cancel (m * 1 * 2 ^ j) (pow-pos (suc k))) ∙ sym g
-
-fit-parts : (s : Bool) (m : ℕ) (e : ℤ) → T (fits binary64 (fin s m e)) → (down e ≤ 2 ^ 1074) × (m * up e < 2 ^ 1024 * down e)
+pub fit-parts : (s : Bool) (m : ℕ) (e : ℤ) → T (fits binary64 (fin s m e)) → (down e ≤ 2 ^ 1074) × (m * up e < 2 ^ 1024 * down e)
 unfolding fits
 fit-parts s zero e h = (
   le-trans (one (up e) (down e) (eqb→eq (up e * down e) 1 h)) (pow-pos 1074),
@@ -81,12 +70,6 @@ fit-parts s (suc m) e h =
     let C = leb (down e) (2 ^ 1074) in
     let D = ltb (suc m * up e) (2 ^ 1024 * down e) in
     (leb→le (down e) (2 ^ 1074) (and-r (A && B) C (and-l (A && B && C) D h)), ltb→lt (suc m * up e) (2 ^ 1024 * down e) (and-r (A && B && C) D h))
-
-pub whole : (x : Float) → T (fits binary64 x) → T (finite x) → HasValue x (negative x) (sizeOf x) (2 ^ 1074)
-unfolding sizeOf negative
-whole nan h f = absurd f
-whole (inf s) h f = absurd f
-whole (fin s m e) h f = (refl, sym (divides m e (fit-parts s m e h .0)))
 
 pub size-lt : (x : Float) → T (fits binary64 x) → sizeOf x < 2 ^ 2098
 unfolding sizeOf
@@ -145,13 +128,3 @@ taken-units t k x b h =
     let z : u + v ≡ N * q = sym (div-add-mod (u + v) N) ∙ ap (λ (n : ℕ). N * q + n) (opposite k x b h) ∙ add-zero (N * q) in
     let l : u < N = mod-lt (complement (negative x) (k * sizeOf x)) N-pos in
     same-mod (t + v) (t + (N - u)) 1 q (omega arith)
-
--- and undoes adding it
-pub undone : (t k : ℕ) (x : Float) → k < 2 ^ 16 → T (fits binary64 x) → takeOf (addOf t k x) k x ≡ t % N
-unfolding addOf takeOf
-undone t k x b h =
-    mod-add-mod (t + unitsOf k x) N (unitsOf k (neg x))
-    ∙ ap (λ (n : ℕ). n % N) (add-assoc t (unitsOf k x) (unitsOf k (neg x)))
-    ∙ sym (add-mod-mod t (unitsOf k x + unitsOf k (neg x)) N)
-    ∙ ap (λ (n : ℕ). (t + n) % N) (opposite k x b h)
-    ∙ ap (λ (n : ℕ). n % N) (add-zero t)

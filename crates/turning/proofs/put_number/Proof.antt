@@ -1,11 +1,7 @@
 -- The words, then the digits that were put at the start of the buffer.
-use mathlib.Core.Path.{subst}
 use native.Mathlib.Omega.{arith}
-use mathlib.Core.List.{List}
-use Prim.Native.Nat.{ℕ}
 use Rattle.text.specs.laws.Digits.{field-most}
-use Rattle.text.specs.laws.Writing.{front-part}
-use Rattle.files.specs.Output.{Wrote}
+use Rattle.loading.specs.laws.Sent.{sent-front}
 use Rattle.files.specs.laws.Outputs.{wrote-both}
 use Rattle.turning.specs.Turning.{numberLine}
 use borrow.Author.Needs.{needs}
@@ -40,7 +36,7 @@ unfolding numberLine
 returns c =
     let d = c .before .before .before .before .before .put-decimal in
     wrote-both (c .before .before .before .put .ensures)
-    (subst (λ (t : List ℕ). Wrote (c .before .before .before .put .result) t (c .put2 .result)) (front-part (d .ensures .put (omega arith))) (c .put2 .ensures))
+    (sent-front (d .ensures .put (omega arith)) (c .put2 .ensures))
 
 pub put-number-spec : {M : Type 1} → statement M
 put-number-spec =

@@ -1,13 +1,10 @@
--- `round` meets its contract: below 2 ^ 52 by the value's parts, and else it stays (`Fractions`).
-use mathlib.Core.Path.{_∙_}
-use Prim.Native.Nat.{ℕ, _-_, _<_}
-use native.Mathlib.Omega.{arith}
+-- `round` meets its contract: below 2 ^ 52 by the value's parts, and else it stays (`Wholes`).
 use native.Mathlib.Nat.{le-of-lt}
 use borrow.Author.Needs.{needs}
 use Rattle.laws.specs.laws.Flags.{holds}
 use Rattle.whole.specs.Whole.{roundOf}
-use Rattle.whole.specs.laws.Meaning.{round-other, round-large}
-use Rattle.whole.proofs.Fractions.{decoded, under, stays, round-low}
+use Rattle.whole.specs.laws.Wholes.{decoded, under, some-below, in-float, below-zero, above-zero, stays}
+use Rattle.whole.specs.laws.Meaning.{round-picks}
 use Rattle.whole.proofs.round.Statement.{statement}
 use Rattle.whole.proofs.round.Tie as tie
 
@@ -15,30 +12,38 @@ parts-requires : tie.Need-parts-requires
 parts-requires c κs = search needs
 
 sub-closest : tie.Need-sub-closest
-sub-closest c = let k = c .before in let p = k .before .before .before in let r = p .parts .result in le-of-lt (under (p .before .args .x) (r .finite) (r .negative) (r .digits) (r .exponent) (p .parts .ensures) (k .if1 .taken))
+sub-closest c = let p = c .before .before .before .before in let r = p .parts .result in le-of-lt (under (p .before .args .x) (r .finite) (r .negative) (r .digits) (r .exponent) (p .parts .ensures) (c .before .if1 .taken))
 
 closest-requires : tie.Need-closest-requires
-closest-requires c κs = let k = c .before in let p = k .before .before .before in let r = p .parts .result in let a = p .before .args .x in (decoded a (r .finite) (r .negative) (r .digits) (r .exponent) (p .parts .ensures) (k .if1 .taken) .digits, left (r .exponent) (under a (r .finite) (r .negative) (r .digits) (r .exponent) (p .parts .ensures) (k .if1 .taken)))
-  where
-    left : (e : ℕ) → e < 1074 → 0 < 1074 - e
-    left e h = omega arith
+closest-requires c κs =
+    let p = c .before .before .before .before in
+    let r = p .parts .result in
+    let x = p .before .args .x in
+    let q = c .before .if1 .taken in
+    (decoded x (r .finite) (r .negative) (r .digits) (r .exponent) (p .parts .ensures) q .digits, some-below x (r .finite) (r .negative) (r .digits) (r .exponent) (p .parts .ensures) q)
 
-signed-requires : tie.Need-signed-requires
-signed-requires c κs = c .closest .ensures .1
+int-to-float-y : tie.Need-int-to-float-y
+int-to-float-y c = in-float (c .before .closest .result) (c .before .closest .ensures .1)
 
 returns : tie.Need-returns
 returns c =
-    let l = c .before in
-    let k = l .before .before in
-    let p = k .before .before .before in
+    let n = c .before .before in
+    let p = n .before .before .before .before .before in
     let r = p .parts .result in
-    c .signed .ensures ∙ round-low (p .before .args .x) (r .finite) (r .negative) (r .digits) (r .exponent) (p .parts .ensures) (k .if1 .taken) (l .closest .result) (l .closest .ensures .0)
+    below-zero roundOf _ round-picks (p .before .args .x) (r .finite) (r .negative) (r .digits) (r .exponent) (p .parts .ensures) (n .before .before .if1 .taken) (n .closest .result) (n .closest .ensures .0) (c .if2 .taken)
 
 returns-2 : tie.Need-returns-2
 returns-2 c =
+    let n = c .before .before in
+    let p = n .before .before .before .before .before in
+    let r = p .parts .result in
+    above-zero roundOf _ round-picks (p .before .args .x) (r .finite) (r .negative) (r .digits) (r .exponent) (p .parts .ensures) (n .before .before .if1 .taken) (n .closest .result) (n .closest .ensures .0) (c .if2 .left)
+
+returns-3 : tie.Need-returns-3
+returns-3 c =
     let p = c .before .before .before in
     let r = p .parts .result in
-    stays (p .before .args .x) (r .finite) (r .negative) (r .digits) (r .exponent) (p .parts .ensures) roundOf round-other round-large (holds (p .before .good .0 .1)) (c .if1 .left)
+    stays roundOf _ round-picks (p .before .args .x) (r .finite) (r .negative) (r .digits) (r .exponent) (p .parts .ensures) (holds (p .before .good .0 .1)) (c .if1 .left)
 
 pub round-spec : {M : Type 1} → statement M
-round-spec = tie.close (tie.spec parts-requires sub-closest closest-requires signed-requires returns returns-2)
+round-spec = tie.close (tie.spec parts-requires sub-closest closest-requires int-to-float-y returns returns-2 returns-3)

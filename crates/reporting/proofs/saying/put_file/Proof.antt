@@ -3,7 +3,8 @@ use native.Mathlib.Nat.{sub-zero}
 use mathlib.Core.Path.{sym, _∙_}
 use Rattle.files.specs.laws.Outputs.{wrote-both}
 use Rattle.reporting.specs.Reporting.{Line}
-use Rattle.reporting.proofs.Files.{sent-front, told-none}
+use Rattle.loading.specs.laws.Sent.{sent-front}
+use Rattle.reporting.proofs.Files.{told-none}
 use borrow.Author.Needs.{needs}
 use Rattle.reporting.proofs.saying.put_file.Statement.{statement}
 use Rattle.reporting.proofs.saying.put_file.Tie as tie

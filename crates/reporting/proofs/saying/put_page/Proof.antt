@@ -1,5 +1,5 @@
 -- The page was put at the start of the buffer, and that was sent.
-use Rattle.reporting.proofs.Files.{sent-front}
+use Rattle.loading.specs.laws.Sent.{sent-front}
 use borrow.Author.Needs.{needs}
 use Rattle.reporting.proofs.saying.put_page.Statement.{statement}
 use Rattle.reporting.proofs.saying.put_page.Tie as tie

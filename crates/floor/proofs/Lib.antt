@@ -1,0 +1,2 @@
+-- The shifts.
+mod Fractions

@@ -1,11 +1,12 @@
 #!/usr/bin/env python3
 """Models of the programs that read and write sheet files: from the words of the call, the files and standard input to what is printed and what the files hold afterwards.
 
-Written from documents 01 and 02 and the page of programs alone, over the sheet of sheet_model.py and the lines of program_model.py. They share nothing with the Rattle code: a total is a
-Python whole number, bytes are taken apart by struct. No elliptic integral is worked out: an edit is modelled only where the documents name its answer, rounds where the stored list has
-them, and everything else takes a row's bytes as they stand. oracle/program_runs.py makes the stored runs of it and puts the programs beside it."""
+Written from documents 01 and 02 and the page of programs alone, over the sheet of sheet_model.py, the lines of program_model.py and the texts of hextext_model.py. They share nothing with the
+Rattle code: a total is a Python whole number, bytes are taken apart by struct. No elliptic integral is worked out: an edit is modelled only where the documents name its answer, a line of hex
+text also where an answer is stored, rounds where the stored list has them, and everything else takes a row's bytes as they stand. oracle/program_runs.py makes the stored runs of it and puts
+the programs beside it."""
 import functools, os, struct
-import program_model as lines, sheet_model as sheets
+import hextext_model as texts, program_model as lines, sheet_model as sheets
 
 MOST_FILES = 400
 LARGEST = 328 + 48 * sheets.MOST_ROWS  # bytes of the largest sheet
@@ -303,7 +304,28 @@ def legforth(words, world, given): return converted(b'legforth OLD NEW', words, 
 def legback(words, world, given): return converted(b'legback NEW OLD', words, world, sheets.NEW)
 
 
-PROGRAMS = {program.__name__: program for program in (legsheet, legfix, legrounds, legmonth, legdiff, legforth, legback)}
+def legwrite(words, world, given):
+    if len(words) != 1: return usage(b'legwrite FILE')
+    data = world.read(words[0])
+    if data is None: return cannot(b'read', words[0])
+    text = texts.write(data)
+    return refused(text.told()) if isinstance(text, texts.Refused) else Ran(text)
+
+
+def legread(words, world, given):
+    if len(words) != 1: return usage(b'legread FILE')
+    if given.fails: return failed(len(given.lines()))
+    reading = texts.Reading()
+    for line in given.lines():
+        wrong = reading.take(line)
+        if wrong: return refused(wrong.told())
+    data = reading.end()
+    if isinstance(data, texts.Refused): return refused(data.told())
+    assert data == texts.read(given.text)
+    return saved(world, words[0], data, b'rows %d\n' % reading.sheet.rows())
+
+
+PROGRAMS = {program.__name__: program for program in (legsheet, legfix, legrounds, legmonth, legdiff, legforth, legback, legwrite, legread)}
 
 
 def ran(program, words, world, given): return PROGRAMS[program](list(words), world, given)

@@ -128,4 +128,5 @@ def main():
         print('r', '-' if p is None else f'{p:016x}', s)
 
 
-main()
+if __name__ == '__main__':
+    main()

@@ -5,7 +5,7 @@ It shares nothing with the Rattle code: lines are matched by regular expressions
 and only such arguments are evaluated as documents 01 and 02 name the answer of, so no elliptic integral is needed.
 
   oracle/program_model.py                writes crates/cases/{args,data/,stdout}, crates/legsheet/{stdin,stdout} and examples/worked.txt
-  oracle/program_model.py --runs         writes faces/program/runs: runs of the programs that read and write sheet files (program_cases.py; their models are files_model.py)
+  oracle/program_model.py --runs         writes faces/program/runs: runs of the programs that read and write sheet files (program_cases.py and hextext_cases.py; their models are files_model.py)
   oracle/program_model.py --check        says whether both are as it would write them
   oracle/program_model.py --run          the model as a program: standard input to standard output
   oracle/program_model.py --compare N    N inputs, most of them damaged somewhere, through target/bin/legsheet (`rt check legsheet`) and through the model

@@ -1,6 +1,6 @@
 #!/usr/bin/env python3
 """Runs of the programs that read and write sheet files: their spelling in faces/program/runs, a run of a program beside its model, and random ones. oracle/program_model.py --runs writes the
-stored ones (their list is oracle/program_cases.py), faces/program/test.py replays them.
+stored ones (their lists are oracle/program_cases.py and, for those in hextext/, oracle/hextext_cases.py), faces/program/test.py replays them.
 
 A stored run is a text. Lines that begin with two spaces belong to the heading above them:
 
@@ -14,7 +14,7 @@ A stored run is a text. Lines that begin with two spaces belong to the heading a
   errors none | some | any      standard error is empty; is not; may be either
   after NAME                    a file that the run wrote, as it is then. Every other name is as before: the same file, not touched. No name is left over."""
 import hashlib, itertools, os, pty, random, re, shutil, stat, struct, subprocess, sys, tempfile, termios
-import files_model, machine, program_model as lines, sheet_model as sheets
+import files_model, hextext_model as texts, machine, program_model as lines, sheet_model as sheets
 from files_model import Input, Ran, World
 
 STORED = os.path.join(lines.ROOT, 'faces/program/runs')
@@ -93,7 +93,8 @@ def blank(rows, says): return sheet([BLANK] * rows, says)
 def blank_and_more(rows, says, more): return blank(rows, says) + bytes(more)
 
 
-RECIPES = {'clears': clears, 'blank': blank, 'blank_and_more': blank_and_more, 'mixed': mixed, 'legs': legs_of, 'one_changed': one_changed, 'input': lines.many, 'edits': edits, 'zeros': lambda n: bytes(n), 'letters': lambda n: b'n' * n, 'dots': lambda n: b'./' * n + b'day'}
+RECIPES = {'clears': clears, 'blank': blank, 'blank_and_more': blank_and_more, 'mixed': mixed, 'legs': legs_of, 'one_changed': one_changed, 'input': lines.many, 'edits': edits, 'zeros': lambda n: bytes(n), 'letters': lambda n: b'n' * n, 'dots': lambda n: b'./' * n + b'day',
+           'worked': texts.worked, 'text': texts.text, 'text_cut': texts.text_cut, 'other_text': texts.other_text, 'longest_text': texts.longest_text, 'nines': lambda n: b'9' * n}
 
 
 # ---- random rows, worlds and lines
@@ -216,6 +217,10 @@ def random_run(rng):
         words = [word()]
         one = files_model.opened(world.read(words[0]) or b'')
         given = some_lines(rng, one.rows() if one else 2)
+    if program == 'legwrite': words = [word()]
+    if program == 'legread':
+        words, text = [word()], texts.some_text(rng)
+        given = Input(text, rng.randrange(25) == 0 and len(text) < 3000)
     if program == 'legmonth': words = [word() for _ in range(rng.choice([1, 2, 3, 6, rng.randrange(12)]))]
     if program == 'legdiff':
         words = [word(), word()]
@@ -545,17 +550,22 @@ def compare(n, seed, folder=None, programs=None):
 
 # ---- the stored runs
 
+def stored_names():
+    """The name of each file in the folder of runs and in those below it."""
+    return sorted(os.path.relpath(os.path.join(folder, name), STORED) for folder, _, names in os.walk(STORED) for name in names)
+
+
 def stored():
     """The stored runs, by name."""
-    for name in sorted(os.listdir(STORED)):
+    for name in stored_names():
         with open(os.path.join(STORED, name)) as file: yield read_run(name, file.read())
 
 
 def wanted_files():
     """Every stored run's file, by its name."""
-    import program_cases
+    import hextext_cases, program_cases
     files = {}
-    for run in program_cases.runs():
+    for run in itertools.chain(program_cases.runs(), hextext_cases.runs()):
         assert run.name not in files, run.name
         files[run.name] = spelled(run)
         again = read_run(run.name, files[run.name])
@@ -572,7 +582,7 @@ def spelled_again(run):
 def check_stored():
     """The names of stored runs that are not as the model makes them, and how many there should be."""
     files = wanted_files()
-    off = sorted(set(os.listdir(STORED)) - set(files))
+    off = sorted(set(stored_names()) - set(files))
     for name, text in files.items():
         path = os.path.join(STORED, name)
         if not os.path.exists(path) or open(path).read() != text: off.append(name)
@@ -582,7 +592,7 @@ def check_stored():
 def write_stored():
     files = wanted_files()
     shutil.rmtree(STORED, ignore_errors=True)
-    os.makedirs(STORED)
     for name, text in files.items():
+        os.makedirs(os.path.dirname(os.path.join(STORED, name)), exist_ok=True)
         with open(os.path.join(STORED, name), 'w') as file: file.write(text)
     return len(files), sum(map(len, files.values()))

@@ -12,6 +12,7 @@ import tempfile
 import time
 
 import files_model
+import hextext_model
 import machine
 import program_model
 import program_runs
@@ -34,6 +35,7 @@ def writers():
     yield Run('legforth', '', 'legforth', [b'day', b'out'], World({b'day': sheet([old(one) for one in ROWS], 1), b'out': b'old bytes', **BESIDE}), Input())
     yield Run('legforth in place', '', 'legforth', [b'day', b'day'], World({b'day': sheet([old(one) for one in ROWS], 1), **BESIDE}), Input())
     yield Run('legback', '', 'legback', [b'day', b'out'], World({b'day': sheet(ROWS), b'out': b'old bytes', **BESIDE}), Input())
+    yield Run('legread', '', 'legread', [b'day'], World({b'day': b'old bytes\n', **BESIDE}), Input(hextext_model.text(1, 3)))
 
 
 def large():
@@ -42,6 +44,7 @@ def large():
     yield Run('legfix, 1,024 rows', '', 'legfix', [b'day'], World({b'day': made('mixed', 22, 1024, 3), **BESIDE}), Input(made('edits', 23, 1024, 1500)))
     yield Run('legforth, 1,024 rows', '', 'legforth', [b'day', b'day'], World({b'day': made('legs', 24, 1024, 1, 1), **BESIDE}), Input())
     yield Run('legback, 1,024 rows', '', 'legback', [b'day', b'day'], World({b'day': made('legs', 25, 1024, 3, 1), **BESIDE}), Input())
+    yield Run('legread, 1,024 rows', '', 'legread', [b'day'], World({b'day': b'old bytes\n', **BESIDE}), Input(made('text', 26, 1024)))
 
 
 def readers():
@@ -51,9 +54,11 @@ def readers():
     yield Run('legfix, a long file', '', 'legfix', [b'one'], World(long), Input())
     yield Run('legmonth, a long file', '', 'legmonth', [b'one', b'one'], World(long), Input())
     yield Run('legdiff, a long file', '', 'legdiff', [b'one', b'one'], World(long), Input())
+    yield Run('legwrite, a long file', '', 'legwrite', [b'one'], World(long), Input())
     yield Run('legfix, no line', '', 'legfix', [b'one'], World(files), Input())
     yield Run('legmonth', '', 'legmonth', [b'one', b'two'], World(files), Input())
     yield Run('legdiff', '', 'legdiff', [b'one', b'two'], World(files), Input())
+    yield Run('legwrite', '', 'legwrite', [b'one'], World(files), Input())
     yield Run('legsheet, no file', '', 'legsheet', [], World(), Input(program_model.EXAMPLE))
     yield Run('legrounds', '', 'legrounds', [], World(), Input(b'2\n' + program_model.edit(1, 3, 0)))
 

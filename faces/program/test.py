@@ -23,6 +23,7 @@ sys.dont_write_bytecode = True
 HERE = os.path.dirname(os.path.abspath(__file__))
 sys.path[:0] = [HERE, os.path.join(HERE, '../../oracle')]
 import files_model
+import hextext_model
 import program_model as model
 import program_runs
 import safe
@@ -38,8 +39,8 @@ def legs(seed, rows, lines):
     return [b'%d\n' % rows] + [model.leg(rng.randrange(rows), rng.uniform(-1e6, 1e6)) for _ in range(lines)]
 
 
-def started(source):
-    return subprocess.Popen(PROGRAM, stdin=source, stdout=subprocess.PIPE, stderr=subprocess.PIPE)
+def started(source, words=None, folder=None):
+    return subprocess.Popen(words or PROGRAM, cwd=folder, stdin=source, stdout=subprocess.PIPE, stderr=subprocess.PIPE)
 
 
 def ended(run, text=None):
@@ -58,10 +59,10 @@ def waiting(pipe):
     return count[0]
 
 
-def fed(parts):
+def fed(parts, words=None, folder=None):
     """A pipe, and one read for each part: the next is written when the last one was read."""
     out, into = os.pipe()
-    run = started(out)
+    run = started(out, words, folder)
     until = time.monotonic() + LONGEST
     for part in parts:
         os.write(into, part)
@@ -128,6 +129,34 @@ def reads(told):
         told(name, wrong)
 
 
+def texts():
+    """Hex texts in parts: one line a write, and cut in random places."""
+    yield 'one line a write', hextext_model.text(7, 1024).splitlines(True)
+    yield 'the longest lines', hextext_model.longest_text(30).splitlines(True)
+    for seed in range(20):
+        rng = random.Random(seed)
+        text = hextext_model.other_text(seed, rng.choice([3, 40, 200])) if seed < 10 else hextext_model.text_cut(seed, 40)
+        yield 'cut in random places, %d' % seed, cut(rng, text[:rng.choice([-1, None])], rng.choice([3, 30, 300]))
+
+
+def text_reads(told, folder):
+    """However the reads cut a text, legread prints and writes the same."""
+    for name, parts in texts():
+        run = program_runs.Run(name, '', 'legread', [b'new'], files_model.World(), files_model.Input(b''.join(parts)))
+        place = program_runs.Place(run.world)
+        try:
+            printed, errors = fed(parts, program_runs.command('legread', folder) + run.words, place.folder)
+            told('legread, ' + name, program_runs.said_faults(run.ran, 0, printed, errors) + program_runs.folder_faults(place, run.ran.wrote))
+        finally:
+            place.away()
+
+
+def answers(told, folder):
+    """The answers that the model of hex text has stored are legsheet's."""
+    with open(hextext_model.ANSWERS_FILE) as file:
+        told('oracle/hextext_answers.txt', [] if file.read() == hextext_model.asked(folder) else ['legsheet answers otherwise: oracle/hextext_model.py --answers'])
+
+
 def listed():
     """The crates of crates.txt."""
     with open(os.path.join(model.ROOT, 'crates.txt')) as file:
@@ -188,6 +217,9 @@ def main():
         global PROGRAM
         PROGRAM = program_runs.command('legsheet', given.bin)
         reads(verdict.told)
+        answers(verdict.told, given.bin)
+    if 'legread' in there:
+        text_reads(verdict.told, given.bin)
     off, _ = program_runs.check_stored()
     verdict.told('oracle/program_model.py --check', off)
     stored(verdict.told, given.bin, there)

@@ -17,7 +17,7 @@ pub(crate) fn byte_at(s: &[u8], i: usize) -> u8
 }
 
 // The first so many bytes, or all.
-pub(crate) fn front(s: &[u8], i: usize) -> &[u8]
+pub fn front(s: &[u8], i: usize) -> &[u8]
     ensures { λ r. ⌜ now r ≡ take i (now (s .entry)) ⌝ }
 {
     if i < s.len() {
@@ -27,7 +27,7 @@ pub(crate) fn front(s: &[u8], i: usize) -> &[u8]
 }
 
 // What follows the first so many bytes.
-pub(crate) fn after(s: &[u8], i: usize) -> &[u8]
+pub fn after(s: &[u8], i: usize) -> &[u8]
     ensures { λ r. ⌜ now r ≡ drop i (now (s .entry)) ⌝ }
 {
     if i < s.len() {
@@ -64,7 +64,7 @@ pub(crate) fn is(s: &[u8], text: &[u8]) -> bool
 }
 
 // How many bytes stand before the first a or b.
-pub(crate) fn find(s: &[u8], a: u8, b: u8) -> usize
+pub fn find(s: &[u8], a: u8, b: u8) -> usize
     ensures { λ r. ⌜ (r ≡ before a b (now (s .entry))) × (r ≤ length (now (s .entry))) ⌝ }
 {
     let mut i: usize = 0;

@@ -1,5 +1,5 @@
 -- What a line of the program's input says, for every string of bytes (01, "The program reads standard input"). Definitions only.
-use Prim.Native.Nat.{ℕ, _+_, _*_, _-_, _^_}
+use Prim.Native.Nat.{ℕ, suc, _+_, _*_, _-_, _^_}
 use mathlib.Core.Bool.{_&&_}
 use mathlib.Core.List.{List, [], _∷_}
 use lib.ListN.{length, getD}
@@ -90,3 +90,12 @@ lineOf s =
     when eqb (length (fieldsOf s)) 6
     gives editFrom (decimalOf (field 0)) (decimalOf (field 1)) (patternOf (field 2)) (patternOf (field 3)) (patternOf (field 4)) (decimalOf (field 5)) else
     Malformed
+
+-- ---- lines of a text
+
+-- how many whole lines these are
+unfoldable pub lineEnds : List ℕ → ℕ
+lineEnds [] = 0
+lineEnds (b ∷ bs) =
+    when eqb b 10 gives suc (lineEnds bs) else
+    lineEnds bs

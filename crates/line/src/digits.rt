@@ -51,7 +51,8 @@ pub fn read_digits(s: &[u8], base: u64) -> Number
     Number::Value(n)
 }
 
-pub(crate) fn decimal(s: &[u8]) -> Number
+// A decimal number of one to ten digits, no zero in front of others.
+pub fn decimal(s: &[u8]) -> Number
     ensures { λ r. ⌜ r ≡ decimalOf (now (s .entry)) ⌝ }
 {
     if s.len() == 0 {

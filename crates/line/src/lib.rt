@@ -2,12 +2,12 @@
 mod digits;
 mod fields;
 
-use digits::decimal;
+pub use digits::decimal;
 pub use digits::digit;
 pub use digits::read_digits;
 use fields::field;
 ghost use mathlib.Core.Path.{_≡_};
-ghost use Rattle.line.specs.Line.{decimalOf, editFrom, lineOf};
+ghost use Rattle.line.specs.Line.{editFrom, lineOf};
 
 // The longest line that can be well formed: three numbers of ten digits, three patterns, five spaces.
 pub const LONGEST: usize = 83;
@@ -27,13 +27,6 @@ pub enum Line {
         times: u16,
     },
     Malformed,
-}
-
-// The row count.
-pub fn read_count(s: &[u8]) -> Number
-    ensures { λ r. ⌜ r ≡ decimalOf (now (s .entry)) ⌝ }
-{
-    decimal(s)
 }
 
 // Six numbers as an edit: one that is none, or does not fit, makes it malformed.

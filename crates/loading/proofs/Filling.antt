@@ -5,14 +5,16 @@ use native.Mathlib.Nat.{add-zero}
 use native.Mathlib.Omega.{arith}
 use mathlib.Core.Bool.{Bool, true, false}
 use mathlib.Core.List.{List, [], _∷_, _++_, append-assoc, append-nil}
-use lib.IntN.{ℤ}
+use lib.IntN.{ℤ, pos, negsuc}
+use lib.Signed.{ltZ}
+use borrow.Author.Tests.{ltb-true}
 use lib.ListN.{length, take, drop, length-drop, drop-of-length-le}
 use lib.Seq.{take-all, take-at, drop-at, take-add, length-take-le}
 use borrow.Rule.Slice.PartMut.{putMid}
 use Rattle.io.specs.Counts.{clamped}
 use Rattle.files.specs.Calls.{Read, read, reads, Called}
 use Rattle.files.specs.Reads.{broughtOf, failedOf, inputOf}
-use Rattle.loading.specs.Load.{most, Fills, full, ends, broke, more, Brought, whole, unread}
+use Rattle.loading.specs.Load.{Fills, full, ends, broke, more, Brought}
 
 -- ---- a part that a call filled, back in its buffer
 
@@ -40,38 +42,48 @@ input-more [] r = append-nil (broughtOf r)
 input-more (q ∷ rs) r = ap (λ (s : List ℕ). broughtOf q ++ s) (input-more rs r) ∙ sym (append-assoc (broughtOf q) (inputOf rs) (broughtOf r))
 
 -- they brought the bytes up to the place, and whatever reads follow, all of them together are the file's
-pub record SoFar (file : ℤ) (at : ℕ) (into : List ℕ) : Type 0 where
+pub record SoFar (room : ℕ) (file : ℤ) (at : ℕ) (into : List ℕ) : Type 0 where
   pub done : List Read
   pub bytes : inputOf done ≡ take at into
-  pub then : (rs : List Read) (ok : Bool) → Fills file at rs ok → Fills file 0 (done ++ rs) ok
+  pub then : (rs : List Read) (ok : Bool) → Fills room file at rs ok → Fills room file 0 (done ++ rs) ok
 
-pub none-yet : (file : ℤ) (into : List ℕ) → SoFar file 0 into
+pub none-yet : (room : ℕ) (file : ℤ) (into : List ℕ) → SoFar room file 0 into
 unfolding inputOf
-none-yet file into = record { done = []; bytes = refl; then = λ rs ok f. f }
+none-yet room file into = record { done = []; bytes = refl; then = λ rs ok f. f }
 
-pub all-full : (file : ℤ) (at : ℕ) (into : List ℕ) → SoFar file at into → at ≡ most → Brought file (take at into) true
-all-full file at into h e = whole (h .done) (rw append-nil at (h .then [] true (rw e full))) (sym (h .bytes))
+pub all-full : (room : ℕ) (file : ℤ) (at : ℕ) (into : List ℕ) → SoFar room file at into → at ≡ room → Brought room file (take at into) true
+all-full room file at into h e = record { reads = h .done; fills = rw append-nil at (h .then [] true (rw e full)); is = sym (h .bytes) }
+
+-- a read that fails brings nothing
+failed-none : (got : ℤ) (n : ℕ) → ltZ got (pos 0) ≡ true → 0 ≡ clamped got n
+failed-none (pos k) n e = absurd (omega (arith, ltb-true k 0 e))
+failed-none (negsuc k) n e = refl
 
 -- one more read, into the rest of the buffer
-module _ (file : ℤ) (at : ℕ) (old new : List ℕ) (got : ℤ) (h : SoFar file at old) (kept : take at new ≡ take at old)
+module _ (room : ℕ) (file : ℤ) (at : ℕ) (old new : List ℕ) (got : ℤ) (h : SoFar room file at old) (kept : take at new ≡ take at old)
     (c : Called (reads file at (read got (drop at new)))) where
   abbrev it : Read
   it = read got (drop at new)
-
-  pub stopped : failedOf it ≡ true → Brought file [] false
-  stopped e = unread (h .done ++ (it ∷ [])) (h .then (it ∷ []) false (broke c e))
 
   joined : (n : ℕ) → n ≡ clamped got (length (drop at new)) → inputOf (h .done ++ (it ∷ [])) ≡ take (at + n) new
   unfolding broughtOf
   joined n e = input-more (h .done) it ∙ rw (← e, h .bytes, ← kept) (sym (take-add at n new))
 
-  pub ended : failedOf it ≡ false → 0 ≡ clamped got (length (drop at new)) → Brought file (take at new) true
+  -- the last one, which brings nothing
+  nothing : (ok : Bool) → 0 ≡ clamped got (length (drop at new)) → Fills room file at (it ∷ []) ok → Brought room file (take at new) ok
+  nothing ok e f = record { reads = h .done ++ (it ∷ []); fills = h .then (it ∷ []) ok f; is = sym (joined 0 e ∙ ap (λ (k : ℕ). take k new) (add-zero at)) }
+
+  pub stopped : failedOf it ≡ true → Brought room file (take at new) false
+  unfolding failedOf
+  stopped e = nothing false (failed-none got (length (drop at new)) e) (broke c e)
+
+  pub ended : failedOf it ≡ false → 0 ≡ clamped got (length (drop at new)) → Brought room file (take at new) true
   unfolding broughtOf
   ended fine e =
       let none : broughtOf it ≡ [] = rw (← e) refl in
-      whole (h .done ++ (it ∷ [])) (h .then (it ∷ []) true (ends c fine none)) (sym (joined 0 e ∙ ap (λ (k : ℕ). take k new) (add-zero at)))
+      nothing true e (ends c fine none)
 
-  pub goes-on : failedOf it ≡ false → (n : ℕ) → n ≡ clamped got (length (drop at new)) → n ≤ length (drop at new) → 0 < n → SoFar file (at + n) new
+  pub goes-on : failedOf it ≡ false → (n : ℕ) → n ≡ clamped got (length (drop at new)) → n ≤ length (drop at new) → 0 < n → SoFar room file (at + n) new
   unfolding broughtOf
   goes-on fine n e fits some =
       let long : length (broughtOf it) ≡ n = rw (← e) (length-take-le n (drop at new) fits) in

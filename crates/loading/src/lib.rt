@@ -7,13 +7,13 @@ ghost use Prim.Native.Nat.{_≤_};
 ghost use lib.ListN.{length, take, drop};
 ghost use Rattle.files.specs.Calls.{Called, opens, read, reads};
 ghost use Rattle.files.specs.Output.{Wrote};
-ghost use Rattle.loading.specs.Load.{most, Brought, Load};
-ghost use Rattle.loading.specs.Notes.{cannotRead, refused7};
+ghost use Rattle.loading.specs.Load.{Brought, Load};
+ghost use Rattle.loading.specs.Notes.{cannotRead, refused7, numberLine};
 
 // The largest sheet, and one byte more: so much of a file is read.
 pub const MOST: usize = 49481;
 
-// How many bytes stand at the start of the buffer, and whether the file could be read.
+// How many bytes stand at the start of the buffer, and whether no read failed.
 pub struct Loaded {
     pub length: usize,
     pub ok: bool,
@@ -36,9 +36,8 @@ fn read_at(file: i32, into: &mut [u8], at: usize) -> isize
 }
 
 // Up to the buffer's end, the file's, or a failure.
-fn read_whole(file: i32, into: &mut [u8]) -> Loaded
-    requires { ⌜ length (now into) ≡ most ⌝ }
-    ensures { λ r. ⌜ Brought file (take (r .length) (now (into .exit))) (r .ok) ⌝ }
+pub fn read_whole(file: i32, into: &mut [u8]) -> Loaded
+    ensures { λ r. ⌜ Brought (length (now (into .entry))) file (take (r .length) (now (into .exit))) (r .ok) ⌝ }
     ensures { λ r. ⌜ r .length ≤ length (now (into .exit)) ⌝ }
 {
     let mut at: usize = 0;
@@ -46,7 +45,7 @@ fn read_whole(file: i32, into: &mut [u8]) -> Loaded
         let got = read_at(file, into, at);
         if got < 0 {
             return Loaded {
-                length: 0,
+                length: at,
                 ok: false,
             };
         }
@@ -79,6 +78,12 @@ pub fn load(name: &[u8], into: &mut [u8; MOST]) -> Loaded
     }
     let loaded = read_whole(file, into);
     files::close(file);
+    if !loaded.ok {
+        return Loaded {
+            length: 0,
+            ok: false,
+        };
+    }
     loaded
 }
 
@@ -87,6 +92,16 @@ pub fn cannot_read(out: Output, name: &[u8]) -> Output
     ensures { λ r. ⌜ Wrote out (cannotRead (now (name .entry))) r ⌝ }
 {
     put_note(out, b"cannot read ", name)
+}
+
+// Words, a number and the line's end.
+pub fn put_number(out: Output, words: &[u8], n: u64) -> Output
+    ensures { λ r. ⌜ Wrote out (numberLine (now (words .entry)) n) r ⌝ }
+{
+    let mut digits = [0u8; 21];
+    let end = text::put_decimal(&mut digits, 0, n, 10);
+    let sent = put(out, words);
+    put(sent, &digits[0..end])
 }
 
 // The file is no sheet.

@@ -1,4 +1,2 @@
--- What legmonth prints, then how pieces of it follow each other.
+-- What legmonth prints.
 pub mod Monthly
-pub mod Placed
-pub mod laws

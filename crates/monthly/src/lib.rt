@@ -14,7 +14,7 @@ ghost use Prim.Native.Nat.{_+_, _≤_};
 ghost use lib.ListN.{length};
 ghost use Rattle.total.specs.Total.{val};
 ghost use Rattle.text.specs.Writing.{Put};
-ghost use Rattle.monthly.specs.Placed.{Placed};
+ghost use Rattle.placing.specs.Placed.{Placed};
 ghost use Rattle.monthly.specs.Monthly.{headText, sumsText, extremesText, reportText, stopText, unreadText};
 
 // Room for a report: at most 7 lines, the exact total's among them, and 32 of refusals.

@@ -10,7 +10,7 @@ ghost use mathlib.Core.List.{[], _∷_, _++_};
 ghost use Prim.Native.Nat.{_+_, _≤_};
 ghost use lib.ListN.{length};
 ghost use Rattle.total.specs.Total.{val};
-ghost use Rattle.monthly.specs.Placed.{Placed};
+ghost use Rattle.placing.specs.Placed.{Placed};
 ghost use Rattle.monthly.specs.Monthly.{note, countsText, totalText, exactText, placeText, extremeText, refusalText, refusalLines};
 
 // Words, a number and the byte after it.

@@ -1,20 +1,14 @@
 -- What the program writes, from the bytes that its reads brought. Definitions only.
-use Prim.Native.Nat.{ℕ, suc}
+use Prim.Native.Nat.{ℕ}
 use mathlib.Core.Bool.{Bool, true, false, not, _&&_}
-use mathlib.Core.List.{List, [], _∷_}
-use lib.Dec.{ltb, eqb}
+use mathlib.Core.List.{List}
+use lib.Dec.{ltb}
 use lib.ListN.{length}
 use Rattle.laws.specs.Ladder.{when_gives_else_}
+use Rattle.line.specs.Line.{lineEnds}
 use Rattle.page.specs.Page.{failedLine}
 use Rattle.ending.specs.Outcome.{Outcome, Start, Sheet, Bad, printed}
 use Rattle.runner.specs.Run.{linesOf, ranOf}
-
--- how many whole lines these are
-unfoldable pub lineEnds : List ℕ → ℕ
-lineEnds [] = 0
-lineEnds (b ∷ bs) =
-    when eqb b 10 gives suc (lineEnds bs) else
-    lineEnds bs
 
 -- where a read failed, `input failed after line k` and nothing of the sheet; else what the input comes to, from o on (Run)
 unfoldable pub writtenOf : (List ℕ → List ℕ) → Outcome → Bool → List ℕ → List ℕ

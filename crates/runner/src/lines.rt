@@ -30,7 +30,7 @@ fn count_line(k: u64, s: &[u8], sheet: &mut [u8]) -> State
     requires { ⌜ length (now sheet) ≡ largest ⌝ }
     ensures { λ r. ⌜ held r (now (sheet .exit)) ≡ countLine k (now (sheet .entry)) (decimalOf (now (s .entry))) ⌝ }
 {
-    let Number::Value(rows) = line::read_count(s) else {
+    let Number::Value(rows) = line::decimal(s) else {
         return between(k, 0, true);
     };
     if (MOST_ROWS as u64) < rows {

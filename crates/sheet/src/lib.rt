@@ -1,6 +1,6 @@
 // The leg sheet (01): the functions by their numbers, and its edits, in bytes that the caller lends: a row worked out by the function of its number, and put in
 // its place. Each call answers for any bytes; a refused edit changes none.
-use row::words;
+pub use row::words;
 ghost use mathlib.Core.Path.{_≡_};
 ghost use Rattle.sheet.specs.Edit.{editRefusal, editOf};
 

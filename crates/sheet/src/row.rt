@@ -45,7 +45,8 @@ fn worked(entry: Entry) -> [u64; 6]
     ]
 }
 
-pub(crate) fn words(entry: Entry) -> [u64; 6]
+// The row of an entry, in words of eight bytes.
+pub fn words(entry: Entry) -> [u64; 6]
     ensures { λ r. ⌜ fields 8 r ≡ rowOf entry ⌝ }
 {
     if entry.function == 0 {

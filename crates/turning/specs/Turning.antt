@@ -2,26 +2,22 @@
 use mathlib.Core.Path.{_≡_}
 use Prim.Native.Nat.{ℕ}
 use mathlib.Core.Bool.{Bool, true, false}
-use mathlib.Core.List.{List, _++_}
+use mathlib.Core.List.{List}
 use lib.Dec.{eqb}
 use lib.IntN.{ℤ}
 use Rattle.laws.specs.Ascii.{ascii}
 use Rattle.laws.specs.Ladder.{when_gives_else_}
 use Rattle.ledger.specs.Calls.{rowsIn}
-use Rattle.text.specs.Text.{decimal, end}
+use Rattle.text.specs.Text.{end}
 use Rattle.conversion.specs.declared.Stop.{Stop}
 use Rattle.conversion.specs.Conversion.{stopOf, convertedOf}
 use Rattle.files.specs.Calls.{Called, counts, words}
 use Rattle.loading.specs.Load.{Load}
 use Rattle.files.specs.Save.{Save}
 use Rattle.files.specs.Notes.{cannotWrite, usageLine}
-use Rattle.loading.specs.Notes.{cannotRead, refused7}
+use Rattle.loading.specs.Notes.{cannotRead, refused7, numberLine}
 use Rattle.files.specs.declared.sending.Output.{Output}
 use Rattle.files.specs.Output.{outputOf, Wrote}
-
--- words, a number and the line's end
-unfoldable pub numberLine : List ℕ → ℕ → List ℕ
-numberLine said n = said ++ (decimal n ++ end)
 
 -- what refused the sheet, of r rows: 7; 17 with its row; 10 for the counts, or with its row
 unfoldable pub stopLine : Stop → ℕ → List ℕ

@@ -3,18 +3,10 @@ use conversion::Stop;
 use files::Output;
 use files::WORD;
 use loading::MOST;
+use loading::put_number;
 ghost use Rattle.files.specs.Save.{Save};
 ghost use Rattle.files.specs.Output.{Wrote};
-ghost use Rattle.turning.specs.Turning.{numberLine, stopLine, Converted, Answered, Done, Ran};
-
-fn put_number(out: Output, words: &[u8], n: u64) -> Output
-    ensures { λ r. ⌜ Wrote out (numberLine (now (words .entry)) n) r ⌝ }
-{
-    let mut digits = [0u8; 21];
-    let end = text::put_decimal(&mut digits, 0, n, 10);
-    let sent = files::put(out, words);
-    files::put(sent, &digits[0..end])
-}
+ghost use Rattle.turning.specs.Turning.{stopLine, Converted, Answered, Done, Ran};
 
 // What refused the sheet.
 fn put_stop(out: Output, stop: Stop, rows: u64) -> Output

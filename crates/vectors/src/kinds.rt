@@ -11,7 +11,7 @@ use line::Number;
 
 // 0, which is no kind, where the text is no number of one.
 pub(crate) fn kind_of(text: &[u8]) -> u8 {
-    let Number::Value(n) = line::read_count(text) else {
+    let Number::Value(n) = line::decimal(text) else {
         return 0;
     };
     if n < 256 {

@@ -1,7 +1,7 @@
 -- WHAT IS ENTERED IS WHAT IS PRINTED. A row count and a list of edits, each written as a line: where every edit is accepted, the page is that of the rows worked
 -- out afresh from the last edit of each row, with their counts and exact total, as demand 3 says; else the number of the first line that is refused. Assumes nothing.
 use mathlib.Core.Path.{_≡_, refl, ap, _∙_}
-use Prim.Native.Nat.{ℕ, suc, _+_, _≤_, _<_}
+use Prim.Native.Nat.{ℕ, suc, _≤_, _<_}
 use native.Mathlib.Omega.{arith}
 use mathlib.Core.Bool.{Bool, true, false, cond}
 use mathlib.Core.List.{List, [], _∷_, _++_, append-assoc, append-nil}
@@ -20,7 +20,8 @@ use Rattle.runner.specs.Run.{zeros, countOn, editOn, lineOn, linesOn, linesOf, 
 use Rattle.entered.specs.Input.{textOf, editLines, sheetText, AllFit, Fits, refusedLine}
 use Rattle.runner.specs.laws.Lengths.{length-zeros}
 use Rattle.runner.specs.laws.Parts.{lines-bad}
-use Rattle.entered.specs.laws.Written.{read-decimal, written, from-decimal, from-less, cut-before, no-end}
+use Rattle.spelt.specs.laws.Digits.{read-decimal, from-decimal, from-less, cut-before}
+use Rattle.entered.specs.laws.Written.{written, no-end}
 
 -- ---- its lines
 

@@ -1,5 +1,5 @@
 -- The reads so far brought the bytes so far.
-use mathlib.Core.Path.{_≡_, sym, _∙_}
+use mathlib.Core.Path.{_≡_, refl, sym, _∙_}
 use Prim.Native.Nat.{_-_, _≤_}
 use native.Mathlib.Omega.{arith}
 use lib.ListN.{length, drop, length-drop}
@@ -9,19 +9,18 @@ use mir.ValLaws.{toZ-ofZ}
 use borrow.Author.Needs.{needs}
 use Rattle.io.specs.Counts.{clamped}
 use Rattle.files.specs.Reads.{failedOf}
-use Rattle.loading.specs.Load.{most}
 use Rattle.loading.proofs.Filling.{rest-whole, SoFar, none-yet, all-full, stopped, ended, goes-on}
 use Rattle.loading.proofs.read_whole.Statement.{statement}
 use Rattle.loading.proofs.read_whole.Tie as tie
 
 abbrev Inv-loop : tie.InvT-loop
-Inv-loop file into₀ at₀ into at = SoFar (toZ w32 file) at into × (at ≤ length into) × (length into ≡ most)
+Inv-loop file into₀ at₀ into at = SoFar (length into₀) (toZ w32 file) at into × (at ≤ length into) × (length into ≡ length into₀)
 
 abbrev μ-loop : tie.MeasureT-loop
-μ-loop file into₀ at₀ into at = most - at
+μ-loop file into₀ at₀ into at = length into₀ - at
 
 loop-holds : tie.Need-loop-holds Inv-loop μ-loop
-loop-holds c = (none-yet _ _, omega arith, search needs)
+loop-holds c = (none-yet _ _ _, omega arith, refl)
 
 read-at-requires : tie.Need-read-at-requires Inv-loop μ-loop
 read-at-requires c κs = search needs
@@ -37,7 +36,7 @@ returns c =
     let call = c .before .before .before .read-at in
     let file = toZ-ofZ w32 (s .args .file) (s .fits .file) in
     let got = toZ-ofZ w64 (call .result) (record { sfits = call .ok }) in
-    (rw file at (stopped (toZ w32 (ofZ w32 (s .args .file))) (l .at) (l .into) (call .last .1 .0) (call .result) (l .inv .0) (call .ensures .1) (call .ensures .0) (rw got at (c .if1 .taken))), omega arith)
+    (rw file at (stopped _ (toZ w32 (ofZ w32 (s .args .file))) (l .at) (l .into) (call .last .1 .0) (call .result) (l .inv .0) (call .ensures .1) (call .ensures .0) (rw got at (c .if1 .taken))), omega arith)
 
 sub-count : tie.Need-sub-count Inv-loop μ-loop
 sub-count c = search needs
@@ -65,7 +64,7 @@ returns-2 c =
     let got = toZ-ofZ w64 (call .result) (record { sfits = call .ok }) in
     let new = call .last .1 .0 in
     let is : n .result ≡ clamped (call .result) (length (drop (l .at) new)) = rw (got, rest-whole new (l .at)) at (n .ensures .1) in
-    (rw file at (ended (toZ w32 (ofZ w32 (s .args .file))) (l .at) (l .into) new (call .result) (l .inv .0) (call .ensures .1) (call .ensures .0) (rw got at (c .before .before .before .before .if1 .left)) (sym (c .if2 .taken) ∙ is)), search needs)
+    (rw file at (ended _ (toZ w32 (ofZ w32 (s .args .file))) (l .at) (l .into) new (call .result) (l .inv .0) (call .ensures .1) (call .ensures .0) (rw got at (c .before .before .before .before .if1 .left)) (sym (c .if2 .taken) ∙ is)), search needs)
 
 add-at : tie.Need-add-at Inv-loop μ-loop
 add-at c = search needs
@@ -84,8 +83,8 @@ loop-again c =
     let new = call .last .1 .0 in
     let is : n .result ≡ clamped (call .result) (length (drop (l .at) new)) = rw (got, rest-whole new (l .at)) at (n .ensures .1) in
     let fits : n .result ≤ length (drop (l .at) new) = rw (rest-whole new (l .at)) at (n .ensures .0 .0) in
-    let long : length new ≡ most = call .kept .1 .0 ∙ l .inv .2 in (
-      goes-on (toZ w32 (ofZ w32 (s .args .file))) (l .at) (l .into) new (call .result) (l .inv .0) (call .ensures .1) (call .ensures .0) (rw got at (c .before .before .before .before .if1 .left)) (n .result) is fits (omega arith),
+    let long = call .kept .1 .0 ∙ l .inv .2 in (
+      goes-on _ (toZ w32 (ofZ w32 (s .args .file))) (l .at) (l .into) new (call .result) (l .inv .0) (call .ensures .1) (call .ensures .0) (rw got at (c .before .before .before .before .if1 .left)) (n .result) is fits (omega arith),
       omega (arith, length-drop (l .at) new),
       long,
     )
@@ -98,7 +97,7 @@ returns-3 c =
     let s = c .before .before .before in
     let l = c .before .loop in
     let file = toZ-ofZ w32 (s .args .file) (s .fits .file) in
-    (rw file at (all-full (toZ w32 (ofZ w32 (s .args .file))) (l .at) (l .into) (l .inv .0) (omega arith)), omega arith)
+    (rw file at (all-full _ (toZ w32 (ofZ w32 (s .args .file))) (l .at) (l .into) (l .inv .0) (omega arith)), omega arith)
 
 pub read-whole-spec : {M : Type 1} → statement M
 read-whole-spec =

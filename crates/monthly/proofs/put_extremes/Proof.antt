@@ -2,7 +2,7 @@
 use native.Mathlib.Omega.{arith}
 use Rattle.laws.specs.Ascii.{ascii}
 use Rattle.monthly.specs.Monthly.{extremeText, extremesText}
-use Rattle.monthly.specs.laws.Placing.{join}
+use Rattle.placing.specs.laws.Placing.{join}
 use borrow.Author.Needs.{needs}
 use Rattle.monthly.proofs.put_extremes.Statement.{statement}
 use Rattle.monthly.proofs.put_extremes.Tie as tie

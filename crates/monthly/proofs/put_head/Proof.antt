@@ -4,7 +4,7 @@ use mathlib.Core.List.{_++_, append-assoc}
 use Rattle.laws.specs.Ascii.{ascii}
 use Rattle.text.specs.Text.{end}
 use Rattle.monthly.specs.Monthly.{note, countsText, headText}
-use Rattle.monthly.specs.laws.Placing.{join}
+use Rattle.placing.specs.laws.Placing.{join}
 use borrow.Author.Needs.{needs}
 use Rattle.monthly.proofs.put_head.Statement.{statement}
 use Rattle.monthly.proofs.put_head.Tie as tie

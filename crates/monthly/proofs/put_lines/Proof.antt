@@ -3,7 +3,7 @@ use native.Mathlib.Omega.{arith}
 use mathlib.Core.List.{_++_}
 use Rattle.total.specs.Total.{val}
 use Rattle.monthly.specs.Monthly.{headText, sumsText, extremesText, refusalLines, reportText}
-use Rattle.monthly.specs.laws.Placing.{join}
+use Rattle.placing.specs.laws.Placing.{join}
 use borrow.Author.Needs.{needs}
 use Rattle.monthly.proofs.put_lines.Statement.{statement}
 use Rattle.monthly.proofs.put_lines.Tie as tie

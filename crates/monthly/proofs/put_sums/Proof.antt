@@ -2,7 +2,7 @@
 use native.Mathlib.Omega.{arith}
 use Rattle.total.specs.Total.{val}
 use Rattle.monthly.specs.Monthly.{totalText, exactText, sumsText}
-use Rattle.monthly.specs.laws.Placing.{join}
+use Rattle.placing.specs.laws.Placing.{join}
 use borrow.Author.Needs.{needs}
 use Rattle.monthly.proofs.put_sums.Statement.{statement}
 use Rattle.monthly.proofs.put_sums.Tie as tie

@@ -15,7 +15,7 @@ use Rattle.line.specs.Line.{decimalOf, lineOf}
 use Rattle.ending.specs.declared.outcome.State.{State}
 use Rattle.runner.specs.Machine.{longest, Held, Room, lineNumber, countLine, editLine, takeLine, endOf, joinOf, stepOf, feedOf}
 use Rattle.runner.specs.laws.Steps.{step-idle}
-use Rattle.runner.specs.Program.{lineEnds}
+use Rattle.line.specs.Line.{lineEnds}
 
 -- a bad line stays so
 stays-bad : (bs : List ℕ) (w : Room) → w .st .bad ≡ true → feedOf w bs .st .bad ≡ true

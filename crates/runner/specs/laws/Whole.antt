@@ -24,7 +24,8 @@ use Rattle.files.specs.Calls.{Read}
 use Rattle.files.specs.Reads.{broughtOf, failedOf, inputOf}
 use Rattle.runner.specs.Reads.{goesOn, Next, Reads, last, go-on, spent}
 use Rattle.runner.specs.Done.{begunOf, allTaken, Ran, saves}
-use Rattle.runner.specs.Program.{lineEnds, writtenOf, sheetIn, savedOf}
+use Rattle.line.specs.Line.{lineEnds}
+use Rattle.runner.specs.Program.{writtenOf, sheetIn, savedOf}
 use Rattle.runner.specs.laws.Lines.{counted}
 
 -- ---- the reads as parts of the input

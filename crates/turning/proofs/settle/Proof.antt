@@ -4,7 +4,8 @@ use borrow.Author.Tests.{not-true, not-false}
 use Rattle.files.specs.declared.sending.Output.{Output}
 use Rattle.files.specs.Output.{Wrote}
 use Rattle.laws.specs.Ascii.{ascii}
-use Rattle.turning.specs.Turning.{numberLine, rowsLine}
+use Rattle.loading.specs.Notes.{numberLine}
+use Rattle.turning.specs.Turning.{rowsLine}
 use Rattle.turning.proofs.Settling.{none-left, settled-refused, settled-unwritten, settled-written}
 use borrow.Author.Needs.{needs}
 use Rattle.turning.proofs.settle.Statement.{statement}

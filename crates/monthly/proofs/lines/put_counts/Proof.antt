@@ -7,7 +7,7 @@ use Rattle.laws.specs.Ascii.{ascii}
 use Rattle.text.specs.Text.{decimal, three, space, end}
 use Rattle.text.specs.laws.Digits.{field-most}
 use Rattle.monthly.specs.Monthly.{countsText}
-use Rattle.monthly.specs.laws.Placing.{piece, follow, three-most}
+use Rattle.placing.specs.laws.Placing.{piece, follow, three-most}
 use borrow.Author.Needs.{needs}
 use Rattle.monthly.proofs.lines.put_counts.Statement.{statement}
 use Rattle.monthly.proofs.lines.put_counts.Tie as tie

@@ -11,7 +11,7 @@ use Rattle.text.specs.Text.{end}
 use Rattle.exact.specs.Exact.{signedHex}
 use Rattle.exact.specs.laws.Hex.{whole-most}
 use Rattle.monthly.specs.Monthly.{exactText}
-use Rattle.monthly.specs.laws.Placing.{piece, follow}
+use Rattle.placing.specs.laws.Placing.{piece, follow}
 use borrow.Author.Needs.{needs}
 use Rattle.monthly.proofs.lines.put_exact.Statement.{statement}
 use Rattle.monthly.proofs.lines.put_exact.Tie as tie

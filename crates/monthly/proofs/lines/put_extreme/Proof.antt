@@ -8,7 +8,7 @@ use Rattle.laws.specs.Ascii.{ascii}
 use Rattle.text.specs.Text.{pattern, space}
 use Rattle.text.specs.laws.Digits.{pattern-most}
 use Rattle.monthly.specs.Monthly.{placeText, extremeText}
-use Rattle.monthly.specs.laws.Placing.{piece, follow, join, looser}
+use Rattle.placing.specs.laws.Placing.{piece, follow, join, looser}
 use borrow.Author.Needs.{needs}
 use Rattle.monthly.proofs.lines.put_extreme.Statement.{statement}
 use Rattle.monthly.proofs.lines.put_extreme.Tie as tie

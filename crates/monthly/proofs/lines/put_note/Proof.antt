@@ -5,7 +5,7 @@ use lib.ListN.{length}
 use Rattle.text.specs.Text.{decimal}
 use Rattle.text.specs.laws.Digits.{field-most}
 use Rattle.monthly.specs.Monthly.{note}
-use Rattle.monthly.specs.laws.Placing.{piece, follow}
+use Rattle.placing.specs.laws.Placing.{piece, follow}
 use borrow.Author.Needs.{needs}
 use Rattle.monthly.proofs.lines.put_note.Statement.{statement}
 use Rattle.monthly.proofs.lines.put_note.Tie as tie

@@ -6,7 +6,7 @@ use Rattle.laws.specs.Ascii.{ascii}
 use Rattle.text.specs.Text.{decimal, space, end}
 use Rattle.text.specs.laws.Digits.{field-most}
 use Rattle.monthly.specs.Monthly.{note, refusalText}
-use Rattle.monthly.specs.laws.Placing.{nothing, follow}
+use Rattle.placing.specs.laws.Placing.{nothing, follow}
 use borrow.Author.Needs.{needs}
 use Rattle.monthly.proofs.lines.put_refusal.Statement.{statement}
 use Rattle.monthly.proofs.lines.put_refusal.Tie as tie

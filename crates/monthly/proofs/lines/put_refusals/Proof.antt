@@ -5,9 +5,9 @@ use native.Mathlib.Numerals.{add-one}
 use native.Mathlib.Omega.{arith}
 use borrow.Author.Needs.{needs}
 use lib.ListN.{getD}
-use Rattle.monthly.specs.Placed.{Placed}
+use Rattle.placing.specs.Placed.{Placed}
 use Rattle.monthly.specs.Monthly.{refusalText, refusalLines}
-use Rattle.monthly.specs.laws.Placing.{nothing, join, looser}
+use Rattle.placing.specs.laws.Placing.{nothing, join, looser}
 use Rattle.monthly.proofs.lines.put_refusals.Statement.{statement}
 use Rattle.monthly.proofs.lines.put_refusals.Tie as tie
 

@@ -9,7 +9,7 @@ use Rattle.total.specs.Total.{val, roundTotal}
 use Rattle.text.specs.Text.{pattern, end}
 use Rattle.text.specs.laws.Digits.{pattern-most}
 use Rattle.monthly.specs.Monthly.{totalText}
-use Rattle.monthly.specs.laws.Placing.{piece, follow}
+use Rattle.placing.specs.laws.Placing.{piece, follow}
 use borrow.Author.Needs.{needs}
 use Rattle.monthly.proofs.lines.put_total.Statement.{statement}
 use Rattle.monthly.proofs.lines.put_total.Tie as tie

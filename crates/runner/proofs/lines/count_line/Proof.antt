@@ -4,8 +4,8 @@ use Rattle.runner.proofs.Taking.{count-none, count-many, count-made}
 use Rattle.runner.proofs.lines.count_line.Statement.{statement}
 use Rattle.runner.proofs.lines.count_line.Tie as tie
 
-read-count-requires : tie.Need-read-count-requires
-read-count-requires c κs = search needs
+decimal-requires : tie.Need-decimal-requires
+decimal-requires c κs = search needs
 
 enum-known-rows : tie.Need-enum-known-rows
 enum-known-rows c = search needs
@@ -19,7 +19,7 @@ between-requires c κs = search needs
 returns : tie.Need-returns
 returns c =
     let a = c .before .before .before .before .before .before .args in
-    rw (c .between .ensures) (count-none (a .k) (a .sheet .now) (c .before .before .before .read-count .ensures) (c .before .enum-told .given .1))
+    rw (c .between .ensures) (count-none (a .k) (a .sheet .now) (c .before .before .before .decimal .ensures) (c .before .enum-told .given .1))
 
 between-requires-2 : tie.Need-between-requires-2
 between-requires-2 c κs = search needs
@@ -28,7 +28,7 @@ returns-2 : tie.Need-returns-2
 returns-2 c =
     let a = c .before .before .before .before .before .before .before .before .args in
     let r = c .before .before .before .rows .given in
-    rw (c .between2 .ensures) (count-many (a .k) (a .sheet .now) (c .before .before .before .before .before .read-count .ensures) (r .0 .0) (r .1) (c .before .if1 .taken))
+    rw (c .between2 .ensures) (count-many (a .k) (a .sheet .now) (c .before .before .before .before .before .decimal .ensures) (r .0 .0) (r .1) (c .before .if1 .taken))
 
 cast-size-for : tie.Need-cast-size-for
 cast-size-for c = search needs
@@ -64,13 +64,13 @@ returns-3 c =
     let n = c .before .before .before .before .before .size-for in
     let q = c .before .before .before .make-blank in
     rw (c .between3 .ensures)
-    (count-made (a .k) (a .sheet .now) (c .before .before .before .before .before .before .before .before .before .before .read-count .ensures) (r .0 .0) (q .result) (n .result) (r .1) (c .before .before .before .before .before .before .if1 .left) (n .ensures) (q .ensures .0) (q .ensures .1))
+    (count-made (a .k) (a .sheet .now) (c .before .before .before .before .before .before .before .before .before .before .decimal .ensures) (r .0 .0) (q .result) (n .result) (r .1) (c .before .before .before .before .before .before .if1 .left) (n .ensures) (q .ensures .0) (q .ensures .1))
 
 pub count-line-spec : {M : Type 1} → statement M
 count-line-spec =
     tie.close
     (tie.spec
-    read-count-requires
+    decimal-requires
     enum-known-rows
     enum-told
     between-requires

@@ -1,0 +1,2 @@
+-- A sheet as hex text.
+pub mod HexPage

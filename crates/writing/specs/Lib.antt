@@ -1,0 +1,2 @@
+-- What comes of a run of legwrite.
+pub mod Writing

@@ -7,7 +7,7 @@ use line::Number;
 use line::decimal;
 ghost use mathlib.Core.Path.{_≡_};
 ghost use mathlib.Core.Bool.{not};
-ghost use Rattle.hexline.specs.Fields.{upTo, fieldOf, saysOf, isNot, badFrom, columnOf, stopOf, numberOf, valueIn};
+ghost use Rattle.hexline.specs.Fields.{upTo, fieldOf, saysOf, isNot, badFrom, columnOf, stopOf, valueIn};
 
 // A number up to so much.
 fn up_to(most: u64, n: Number) -> Number

@@ -16,7 +16,7 @@ ghost use Prim.Native.Nat.{_≤_};
 ghost use Rattle.page.specs.Page.{largest};
 ghost use Rattle.files.specs.Save.{Save};
 ghost use Rattle.hexline.specs.Parts.{partAt};
-ghost use Rattle.hextext.specs.HexText.{countOf, came};
+ghost use Rattle.hextext.specs.HexText.{countOf};
 ghost use Rattle.reading.specs.Taken.{lentFor, takenOf, endOf, Readable, Answered, Done, Ran};
 
 // One byte more than any text that reads has.

@@ -4,8 +4,6 @@ use hextext::Halt;
 use loading::put_number;
 use text::put_bytes;
 use text::put_decimal;
-ghost use Prim.Native.Nat.{_≤_};
-ghost use lib.ListN.{length};
 ghost use mathlib.Core.List.{_++_};
 ghost use Rattle.laws.specs.Ascii.{ascii};
 ghost use Rattle.text.specs.Text.{decimal, end};

@@ -1,6 +1,5 @@
 -- Where m ≥ 1 ellipf asks for sine before the reduction, of |φ| < π/2: at most 4 in size, so refusal 12 can't arise. Assumes nothing.
 use mathlib.Core.Path.{_≡_, sym, subst}
-use Prim.Native.Nat.{_≤_}
 use mathlib.Core.Bool.{false}
 use lib.Dec.{T}
 use lib.Ieee.{Float, fin}

@@ -1,6 +1,5 @@
 -- The file can't be read, or its bytes are looked at.
 use mathlib.Core.Path.{refl, ap, subst, _∙_}
-use mathlib.Core.List.{List}
 use native.Mathlib.Nat.{sub-zero}
 use mir.Syntax.{w32}
 use mir.ValLaws.{toZ-ofZ}
@@ -9,7 +8,7 @@ use Rattle.loading.specs.laws.Loads.{loaded-as}
 use Rattle.loading.specs.Notes.{cannotRead}
 use Rattle.files.specs.declared.sending.Output.{Output}
 use Rattle.files.specs.Output.{outputOf, Wrote}
-use Rattle.writing.specs.Writing.{writtenText, unread, was-read}
+use Rattle.writing.specs.Writing.{unread, was-read}
 use borrow.Author.Needs.{needs}
 use Rattle.writing.proofs.write_file.Statement.{statement}
 use Rattle.writing.proofs.write_file.Tie as tie

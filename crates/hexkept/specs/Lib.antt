@@ -1,4 +1,3 @@
--- A sheet written as hex text and read again is the same bytes (HexKept), of rows that were entered (Entered); why that is so (laws).
-pub mod HexKept
+-- Rows that were entered (Entered); and that a sheet written as hex text and read again is the same bytes, with why that is so (laws).
 pub mod Entered
 pub mod laws

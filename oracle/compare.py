@@ -208,7 +208,7 @@ def stored_lists():
     take = lambda *names: each([lists.pop(name) for name in names])
     used = listed(parts[name] for name in RECIPES)
     text = (f'In the gate `vectors` replays {take("root", "fused")} answers each of root and multiply-add, {take("magnitude", "trunc", "floor", "round")} each of the four others, '
-            f'{take("remainder")} of the remainder (by fmod), {take("sine", "cosine")} each of sine and cosine, {take("logarithm")} of the logarithm and {take("arctangent")} of the arc tangent (within the proved bounds of the exact sums), '
+            f'{take("remainder")} of the remainder (by fmod), {take("sine", "cosine")} each of sine and cosine and {take("logarithm")} of the logarithm (within the proved bounds of the exact sums), '
             f'{take("complete")} of ellipk, ellipe and ellipke (bits), {take(*FUNCTIONS)} each of ellippi, ellipeinc and ellipf in the box and {take(*(f"{name}_wide" for name in FUNCTIONS))} each far outside it '
             f'(within 2^-36 of mpmath), {take(*RECIPES)} each of RF, RC, RD and RJ (stop test met, within 2^-48 of mpmath; at most {used} of that is used), {take("rounds")} counts of rounds (equal)')
     text += ''.join(f', {number(lines)} of {name}' for name, lines in lists.items())
@@ -223,11 +223,10 @@ def stored_lists():
 def kernel():
     said = run(PYTHON, 'oracle/kernel_model.py', size(8000, 100))
     angles, positives = read(r'^(\d+) angles, (\d+) positive numbers$', said)
-    tangents = read(r'^(\d+) tangents$', said)
-    out = ['## Sine, cosine, logarithm and arc tangent against the exact sums', '',
-           f'By `oracle/kernel_model.py`, on {number(angles)} angles, {number(positives)} positive numbers and {number(tangents)} tangents (near 0, π/4, π/2, π, 4, 3/4, 1, 3/2; powers of two; subnormals; random):', '',
+    out = ['## Sine, cosine and logarithm against the exact sums', '',
+           f'By `oracle/kernel_model.py`, on {number(angles)} angles and {number(positives)} positive numbers (near 0, π/4, π/2, π, 4, 3/4, 1, 3/2; powers of two; subnormals; random):', '',
            '| function | proved bound | largest part of it met |', '|---|---|---|']
-    for name, bound in (('sine', '\\|x\\|·2^-52'), ('cosine', '2^-52'), ('logarithm', '(\\|k\\|+1)·2^-53'), ('arctangent', '\\|x\\|·2^-52 below 1/4, else 2^-52')):
+    for name, bound in (('sine', '\\|x\\|·2^-52'), ('cosine', '2^-52'), ('logarithm', '(\\|k\\|+1)·2^-53')):
         part = float(read(rf'^{name}\s.*?(\d\.\d+) of the bound, at', said))
         must(part <= 1, f'{name} is outside its bound')
         out.append(f'| {name} | {bound} | {part:.3f} |')

@@ -38,7 +38,7 @@ class World:
         return 0 < len(name) <= LONGEST_PATH and all(len(part) <= LONGEST_NAME for part in name.split(b'/')) and not name.endswith(b'/')
 
     def read(self, name):
-        """A file's bytes, at least so many that a sheet or a text can be told; None where it can't be opened or read."""
+        """A file's bytes, at least so many that a sheet can be told; None where it can't be opened or read."""
         if name == b'/dev/zero': return bytes(LARGEST + 1)
         if name == b'/dev/null': return b''
         if not self.is_path(name): return None
@@ -209,11 +209,7 @@ def extremes(): return Extreme(b'largest', sheets.key), Extreme(b'smallest', lam
 
 @functools.lru_cache(100)
 def summed(data):
-    """What a file brings to a report: how often each class and each refusal number occurs, its exact total, and its extremes. Where it stands apart, why.
-    One whose first byte is a digit is a text, and stands for the sheet that it reads into, rows of function 1 among them."""
-    if data[:1].isdigit():
-        data = texts.read_held(data, True)
-        if isinstance(data, texts.Refused): return data.told()
+    """What a file brings to a report: how often each class and each refusal number occurs, its exact total, and its extremes. Where it stands apart, why."""
     sheet = opened(data)
     if sheet is None: return b'7'
     at = first_rejected(rows_in(sheet))
@@ -235,6 +231,7 @@ def legmonth(words, world, given):
     taken, apart, counts, numbers, total, ends = 0, [], [0] * 5, {}, 0, extremes()
     for s, name in enumerate(words, 1):
         data = world.read(name)
+        if data is not None and data[:1].isdigit(): raise ValueError('a text')
         brought = b'unread' if data is None else summed(data)
         if isinstance(brought, bytes):
             apart.append(b'file %s %s\n' % (brought, name))

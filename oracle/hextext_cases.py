@@ -1,12 +1,11 @@
 #!/usr/bin/env python3
-"""The list of the stored runs of faces/program/runs/hextext: legwrite, legread, and legmonth over texts, each with its words, the files before and standard input. What they come to is worked
-out by files_model.py, answers that the documents do not name by the stored ones of hextext_model.py."""
-import itertools
+"""The list of the stored runs of faces/program/runs/hextext: legwrite and legread, each with its words, the files before and standard input. What they come to is worked out by files_model.py,
+answers that the documents do not name by the stored ones of hextext_model.py."""
 import hexfloat_points as floats, hextext_model as texts, sheet_model as sheets
-from files_model import Input, World, opened, rows_in
+from files_model import Input, World
 from hextext_model import LEG, of, other_text, sheet_of, with_field
 from program_cases import DAMAGED_ROWS, NAMES, NO_NAMES, ODD_ROWS, ONES, WHOLE, not_sheets, olds
-from program_runs import BLANK, Made, Run, Text, leg, made, pattern, row, sheet
+from program_runs import BLANK, Run, leg, made, pattern, row, sheet
 
 PLUS, MINUS, ONE, TOP, SIGN, NAN = sheets.PLUS, sheets.MINUS, sheets.ONE, sheets.TOP, sheets.SIGN, sheets.NAN
 TWO, HALF, OFTEN = pattern(2), pattern(0.5), sheets.MOST_TIMES
@@ -217,157 +216,7 @@ def legread():
     for words in ([], [b'day', b'day']): yield 'usage_%d' % len(words), '%d words.' % len(words), words, day, good
 
 
-# ---- legmonth FILE...
-
-def one_of(a, times=1): return worked(1, a, 0, 0, times)  # ellipk, which only a report takes
-
-
-REPORTED = FUNCTIONS + REFUSED + ENDS + NANS + DRIVEN
-ONES_OF = [one_of(0), one_of(HALF, 3), one_of(SIGN), one_of(pattern(-1), 0), one_of(0x3feccccccccccccd, OFTEN), one_of(ONE, 2), one_of(MINUS, 7), one_of(NAN), one_of(MINUS + 1, 4), one_of(TWO, 9), one_of(ONE + 1), one_of(PLUS)]
-OUTSIDE = [(b'slash', b'/'), (b'colon', b':'), (b'space', b' '), (b'plus', b'+'), (b'minus', b'-'), (b'line feed', b'\n'), (b'cr', b'\r'), (b'tab', b'\t'), (b'nul', b'\0'), (b'byte order mark', b'\xef\xbb\xbf'), (b'letter', b'x'),
-           (b'comma', b','), (b'176', b'\xb0'), (b'255', b'\xff')]
-NO_TEXTS = [(b'date', b'2026-11-16\n'), (b'words', b'7 days in May\n'), (b'zeros', b'007\n'), (b'point', b'1.5\n'), (b'comma', b'1,\n'), (b'hex', b'0x1p+0\n'), (b'cr', of(LEG).replace(b'\n', b'\r\n')), (b'utf16', of(LEG).decode().encode('utf-16-le')),
-            (b'sheet', b'1' + plain([arc(ONE)])[1:]), (b'sheet 3', b'3' + plain([arc(ONE)])[1:]), (b'edits', b'1\n0 5 3ff8000000000000 0000000000000000 0000000000000000 1\n'), (b'one byte', b'5')]
-
-
-def for_file(data):
-    """Spelled as lines where it is a text, and no recipe stands for it."""
-    return Text(data) if data[:1].isdigit() and b'\0' not in data and not isinstance(data, Made) else data
-
-
-def month(*files, **more): return [b'%d' % i for i in range(len(files))], World({b'%d' % i: for_file(data) for i, data in enumerate(files)}, **more)
-def named(pairs, **more): return [name for name, _ in pairs], World({name: for_file(data) for name, data in pairs}, **more)
-def turned(words, world): return words[::-1], world
-
-
-def reported():
-    """Texts that are taken."""
-    legs = [arc(pattern(1.5), 2), worked(0), arc(pattern(-4))]
-    one, same = plain(legs), text(legs)
-    yield 'text', 'A text alone.', *month(same)
-    yield 'text_and_sheet', 'A sheet, and a text of the same rows: all is doubled.', *month(plain(REPORTED), text(REPORTED))
-    yield 'sheet_and_sheet', 'The same of the sheet twice.', [b'0', b'0'], month(plain(REPORTED))[1]
-    yield 'text_and_text', 'And of the text twice.', [b'0', b'0'], month(text(REPORTED))[1]
-    yield 'rows_0', 'A text of no rows is a sheet.', *month(b'0\n')
-    yield 'rows_0_no_end', 'Also without its line feed: the shortest text.', *month(b'0', one)
-    yield 'blank', 'Blank rows alone, whatever their times and arguments say.', *month(of(*[UNUSED[0]] * 3))
-    yield 'no_end', 'The last line has no line feed.', *month(same[:-1])
-    yield 'cut', 'A last line that is cut, and says the same: 0x0 for 0x0p+0.', *month(same[:-4], one)
-    for name, note, rows in [('functions', 'Every function that can be entered, with answers.', FUNCTIONS), ('refusals', 'Refused rows, by their numbers.', REFUSED), ('ends', 'Zeros, subnormals, the largest, the smallest, infinities.', ENDS),
-                             ('nans', 'NaN arguments: refused rows.', NANS), ('times', 'Times 0 to 65,535.', DRIVEN)]: yield name, note, *month(text(rows))
-    yield 'unused', 'What a function does not read says anything that reads.', *month(of(*UNUSED), plain([worked(0), worked(3, ONE, times=9), worked(5, pattern(3), times=2)]))
-    yield 'spellings', 'Other spellings of 3.', *month(respelled([(s, THREES[-1 - k]) for k, s in enumerate(THREES)]))
-    yield 'rounded', 'Spellings that are rounded, to zeros and infinities too.', *month(respelled(ROUNDED))
-    yield 'many_spellings', 'Random spellings, and the sheet that they read into.', *month(other_text(4, 30), texts.read(other_text(4, 30)))
-    for digit in range(1, 10): yield 'first_byte_%d' % digit, 'A text that begins with %d.' % digit, *month(text([arc(pattern(k + 1)) for k in range(digit)]))
-    yield 'first_bytes_10_to_99', 'Counts of two digits.', *month(*[made('text', digit, 10 * digit + 1) for digit in range(1, 10)])
-    # function 1
-    yield 'ones', 'Rows of function 1 are taken, worked out and compared.', *month(text(ONES_OF))
-    yield 'ones_and_sheet', 'The same with their sheet: all is doubled.', *month(text(ONES_OF), plain(ONES_OF))
-    yield 'ones_says_1', 'And with it as it says 1: each leg once.', *month(sheet(olds(rows_in(opened(plain(ONES_OF)))), 1), text(ONES_OF))
-    yield 'ones_among_others', 'Among rows of every other function.', *month(text(FUNCTIONS[:3] + ONES_OF[:3] + REFUSED + ONES_OF[3:]))
-    yield 'ones_unused', 'What function 1 does not read says anything that reads.', *month(of(with_field(2, b'nan:fff8000000000001', with_field(3, b'-inf', KNOWN_ONE))))
-    yield 'ones_spellings', 'Random spellings, function 1 among them.', *month(other_text(5, 40, 1))
-    # the counts, the total and the extremes, over texts and sheets
-    yield 'says_1', 'A text between sheets that say 1.', *month(sheet(olds([leg(1.5), BLANK, leg(-4.0)]), 1), same, sheet(olds(WHOLE), 1))
-    yield 'says_1_written', 'What is written of a sheet that says 1, beside it.', *month(sheet(olds([leg(1.5), BLANK, leg(-4.0)]), 1), texts.write(sheet(olds([leg(1.5), BLANK, leg(-4.0)]), 1)))
-    between_sheets = month(one, text(FUNCTIONS), sheet(WHOLE), text(ONES_OF), b'0\n', sheet(olds(WHOLE), 1), text(ENDS))
-    yield 'order', 'Texts between sheets.', *between_sheets
-    yield 'order_turned', 'The same files, the last one first.', *turned(*between_sheets)
-    yield 'ties', 'Of equal ones the earliest is shown, in a text or in a sheet.', *month(text([arc(ONE), arc(pattern(5)), arc(pattern(-7))]), plain([arc(pattern(5)), arc(pattern(-7))]))
-    yield 'ties_turned', 'And the other way.', *turned(*month(text([arc(ONE), arc(pattern(5)), arc(pattern(-7))]), plain([arc(pattern(5)), arc(pattern(-7))])))
-    yield 'ties_in_a_text', 'Also in one text.', *month(text([worked(0), arc(TWO), arc(TWO)]))
-    yield 'zeros', '-0 and +0 are equal, and the first shows its own pattern: -0.', *month(text([arc(SIGN), arc(0)]))
-    yield 'zeros_2', 'And the other way.', *month(text([arc(0)]), text([arc(SIGN)]))
-    yield 'zeros_and_sheet', '-0 of a text before +0 of a sheet.', *month(text([arc(SIGN)]), sheet([leg(0.0)]))
-    yield 'no_extremes', 'No finite row: no extremes.', *month(text([arc(PLUS), arc(MINUS), *REFUSED, worked(0)]))
-    yield 'never_driven', 'Times 0: counted, an extreme, and nothing in the total.', *month(text([arc(pattern(1e300), 0), arc(ONE), arc(pattern(-1e300), 0)]))
-    yield 'subnormals', 'The smallest steps.', *month(text([arc(LEAST), arc(SIGN + LEAST), arc(2, 3)]))
-    yield 'zero_total', 'A text and a sheet that cancel.', *month(text([arc(pattern(1e300), 7)]), sheet([leg(-1e300, 7)]))
-    yield 'negative', 'A total below zero.', *month(text([arc(pattern(-1.5), 9)]), sheet([leg(2.0)]))
-    yield 'too_large', 'A total that rounds to an infinity, and is exact.', *month(text([arc(TOP, OFTEN)] * 3), text([arc(TOP, OFTEN)]))
-    yield 'tie_to_even', 'A total just between two.', *month(text([arc(pattern(2.0 ** 53))]), text([arc(ONE)]))
-    yield 'twice', 'A text named twice counts twice.', [b'0', b'0', b'0'], month(same)[1]
-    yield 'twice_by_another_way', 'Also by another name.', [b'0', b'./0'], month(same)[1]
-    yield 'sheet_numbers', 'Texts are numbered by their place among all words, those apart too.', [b'none', b'x', b'0', b'bad', b'1', b'2'], World({**month(text([arc(ONE)]), text([worked(0), arc(TWO)]), sheet([leg(-9.0)]))[1].files, b'x': b'x', b'bad': Text(b'1\n')})
-    # long ones
-    yield 'rows_1024', 'A text of 1,024 rows, and its sheet: all is doubled.', *month(made('text', 2, 1024), made('worked', 2, 1024))
-    yield 'rows_1024_spellings', '1,024 rows in many spellings.', *month(made('other_text', 3, 1024))
-    yield 'rows_1024_ones', '1,024 rows, many of function 1, in many spellings, and their sheet.', *month(made('other_text', 6, 1024, 1), made('worked', 7, 1024, 1), made('text', 7, 1024, 1))
-    yield 'longest', 'The longest text that is taken: 281,605 bytes.', *month(made('longest_text', 1024), one)
-    yield 'longest_first', 'What a long text left in memory plays no part: a shorter text, a sheet, a text whose last line is missing, a sheet that is cut, an empty file.', *month(made('text', 2, 1024), same, one, made('text', 2, 1024), b'3\n' + LEG + b'\n', one[:-1], b'', b'0')
-    yield 'blank_after', 'Nor do rows: blank rows behind rows that were read, and behind a text that halts at its last line.', *month(text(legs), text([worked(0)] * 3), b'3\n' + LEG + b'\n' + LEG + b'\nx\n', text([worked(0)] * 3))
-    yield 'prefix_after', 'Nor do lines: a text that is the beginning of the one before it, but for a field, a line, all lines, all but a byte.', *month(same, same[:-8], same, same.rsplit(b'\n', 2)[0] + b'\n', same, same[:2], same, same[:1])
-    yield 'files_400', '400 files, texts and sheets.', [b'0', b'1'] * 200, month(same, sheet([leg(-1.0, OFTEN), row(5, 1, 1, NAN)]))[1]
-    yield 'files_400_apart', '400 texts, and none of them taken.', [b'0'] * 400, month(b'1\n')[1]
-    yield 'files_401', '401 texts.', [b'0'] * 401, month(same)[1]
-
-
-ONE_FAULTS = [('refusal', 'says a refusal, and none is worked out', with_field(5, b'1', KNOWN_ONE)), ('first', 'differs in the last bit of its answer', with_field(6, b'0x1.daa4a35759e4dp+0', KNOWN_ONE)),
-              ('second', 'has a second answer', with_field(7, b'0x1.59ccb2b5fe00cp+0', KNOWN_ONE)), ('second_minus_zero', 'has -0 for its second answer', with_field(7, b'-0x0p+0', KNOWN_ONE)),
-              ('22', 'says 22', with_field(5, b'22', KNOWN_ONE)), ('nan', 'has NaN for its answer', with_field(6, b'nan:7ff8000000000000', KNOWN_ONE)), ('unread', 'does not read', with_field(7, b'0', KNOWN_ONE)),
-              ('nine_fields', 'has a field too many', KNOWN_ONE + b','), ('seven_fields', 'has a field too few', KNOWN_ONE.rsplit(b',', 1)[0]), ('times_65536', 'has times 65536', with_field(4, b'65536', KNOWN_ONE)),
-              ('not_refused', 'is refused 2, and says an answer', b'1,0x1p+1,0x0p+0,0x0p+0,1,0,inf,0x0p+0'), ('other_refusal', 'is refused 2, and says 1', b'1,0x1p+1,0x0p+0,0x0p+0,1,1,0x0p+0,0x0p+0'),
-              ('refused_answer', 'is refused 1, and says an answer', b'1,nan:7ff8000000000000,0x0p+0,0x0p+0,1,1,0x1p+0,0x0p+0'), ('pair', 'has the two answers of function 3', b'1,0x1p+0,0x0p+0,0x0p+0,1,0,inf,0x1p+0'),
-              ('minus_zero', 'has -0 for +0', b'1,-inf,0x0p+0,0x0p+0,1,0,-0x0p+0,0x0p+0')]
-
-
-def stand_apart():
-    """Texts that are not taken, between two that are, or between sheets."""
-    one, good = sheet([leg(1.5, 2), leg(-4.0)]), of(LEG, PAIR)
-    every = [(name, note, given) for name, note, given in not_taken() if given[:1].isdigit() and not name.startswith('one')]
-    for k, (name, note, given) in enumerate(every): yield 'bad_' + name, note + ': the file stands apart.', *month(*((one, given, one) if k % 2 else (good, given, good)))
-    for name, note, line in ONE_FAULTS: yield 'bad_one_' + name, 'A line of function 1 that %s: the file stands apart.' % note, *month(one, between(line))
-    yield 'bad_one_after', 'A line behind one of function 1.', *month(of(KNOWN_ONE, with_field(5, b'2')))
-    many = [(name.encode(), given) for name, _, given in every] + [(b'one_' + name.encode(), between(line)) for name, _, line in ONE_FAULTS]
-    yield 'apart_many', 'All of these in one call, a text and a sheet among them.', *named([*many[:40], (b'good', good), *many[40:], (b'sheet', one)])
-    yield 'apart_many_turned', 'The same call, the last file first.', *turned(*named([*many[:40], (b'good', good), *many[40:], (b'sheet', one)]))
-    mixed = named([(b'eleven', b'1025\n'), (b'x', b'x'), (b'text', good), (b'eighteen', between(with_field(6, b'0x3.1'))), (b'damaged', sheet([BLANK, DAMAGED_ROWS['nan']])), (b'sheet', one), (b'empty', b'')], folders=[b'sub'])
-    words = [b'eleven', b'x', b'none', b'text', b'eighteen', b'damaged', b'sub', b'sheet', b'eleven', b'empty', b'eighteen']
-    yield 'apart_order', 'Files that are not taken stand in the order given, for whatever reason.', words, mixed[1]
-    yield 'apart_order_turned', 'And turned round.', words[::-1], mixed[1]
-    yield 'apart_alone', 'No file was taken.', *month(b'1025\n', b'1\n', b'')
-    yield 'nothing_added', 'The last of 1,024 rows is missing: nothing of the text is added.', *month(made('text_cut', 5, 1024), good)
-    # what a file is is known from its first byte
-    yield 'other_first_bytes', 'Files that would read, were it not for their first byte, which is no digit: 7.', *named([(name, byte + of(LEG)) for name, byte in OUTSIDE] + [(b'text', of(LEG))])
-    yield 'no_texts', 'Files that begin with a digit and are no text: 18, and not 7.', *named(NO_TEXTS)
-    yield 'not_sheets', 'Files that are no sheet are 7, as before.', *named([(name.encode(), data) for name, _, data in list(not_sheets())[::3]] + [(b'text', good)])
-    # long ones
-    yield 'held_reads', 'A text of 290,821 bytes, the most that 1,024 lines have which read; the first of them differs.', *month(made('longest_read', 1024), one)
-    yield 'held_extra', 'A text of 290,821 bytes: the longest that is taken, and a line too many.', *month(made('longest_and_more', 1024, 9216), one)
-    yield 'filled_extra', 'The same of 290,822 bytes, which fills what is read: the line too many is told all the same.', *month(made('longest_and_more', 1024, 9217), one)
-    yield 'longer_extra', 'The same of 290,823 bytes.', *month(made('longest_and_more', 1024, 9218), one)
-    yield 'megabytes_extra', 'The longest text that is taken, and megabytes in a line too many.', *month(made('longest_and_more', 1024, 2000000), good)
-    yield 'megabytes_lines', 'A digit a line, for megabytes.', *month(made('lines', 1000000), good)
-    yield 'megabytes_letters', 'Megabytes that begin with no digit.', *month(made('letters', 1000000), made('zeros', 290822), good)
-    yield 'held_digits', 'A count of 290,821 digits.', *month(made('nines', 290821), good)
-    yield 'filled_digits', 'A count of 290,822 digits, which fills what is read.', *month(made('nines', 290822), good)
-    yield 'longer_digits', 'A count of a million digits.', *month(made('nines', 1000000), good)
-    yield 'filled_digits_and_x', 'A count of 290,821 digits that does not read at its end.', *month(made('nines', 290821, 1), good)
-    yield 'longer_digits_and_x', 'Of a count that fills what is read, what lies behind is not looked at.', *month(made('nines', 290822, 1), good)
-
-
-def month_files():
-    """Names, links, and texts that can't be read."""
-    one, good, names = sheet([leg(1.5, 2), leg(-4.0)]), of(LEG, PAIR), [word for _, word in NAMES]
-    yield 'names', 'Names of any bytes.', *named([(word, good) for word in names])
-    yield 'names_apart_11', 'The same of texts of too many rows.', *named([(word, b'1025\n') for word in names])
-    yield 'names_apart_18', 'And of texts that do not read.', *named([(word, b'2\n' + LEG + b'\n' + LEG[:k + 1] + b'\n') for k, word in enumerate(names)])
-    yield 'unreadable', 'A text that may not be read.', *month(good, of(LEG), one, modes={b'0': 0})
-    yield 'missing', 'A text that is not there.', [b'0', b'1', b'a text'], month(good, one)[1]
-    yield 'links', 'A link to a text is read.', [b'link', b'0'], World({b'0': Text(good)}, links={b'link': b'0'})
-    yield 'in_folder', 'A text in another folder, and the folder.', [b'sub/text', b'sub'], World({b'sub/text': Text(good)}, [b'sub'])
-    yield 'read_only', 'Nothing is written, so nothing need be writable.', *month(good, modes={b'0': 0o444, b'.': 0o555})
-    yield 'devices', 'Devices behind a text.', [b'0', b'/dev/null', b'/dev/zero', b'0'], month(good)[1]
-
-
-def legmonth():
-    """Name, note, words, world, input."""
-    for name, note, words, world in itertools.chain(reported(), stand_apart(), month_files()): yield name, note, words, world, b''
-    yield 'input_unread', 'Standard input plays no part, also where it is a text.', *month(of(LEG)), of(LEG, LEG)
-
-
 def runs():
     """Every run of the folder."""
-    for program, listed in [('legwrite', legwrite()), ('legread', legread()), ('legmonth', legmonth())]:
+    for program, listed in [('legwrite', legwrite()), ('legread', legread())]:
         for name, note, words, world, given in listed: yield Run('hextext/%s_%s' % (program, name), note, program, words, world, given if isinstance(given, Input) else Input(given))

@@ -157,57 +157,41 @@ def read(text, one=False, evaluate=known):
 POINTS = sorted(ANSWERS)
 
 
-def some_row(rng, one=False):
-    """Function, three arguments, times, refusal and two answers of a row that is worked out, of function 1 only where it may be; what its function does not read may be anything."""
+def some_row(rng):
+    """Function, three arguments, times, refusal and two answers of a row that is worked out; what its function does not read may be anything."""
     kind, a, b = rng.randrange(8), sheets.value(rng), sheets.value(rng)
     if kind == 0: f = 0
     elif kind < 3: f, a, b = rng.choice(sheets.CORNERS)
     elif kind < 5: f, b = rng.choice([5, 6]), rng.choice([0, sheets.SIGN])
     else: f, a, b = rng.choice(POINTS)
-    if f == sheets.WITHDRAWN and not one: f = 3
+    if f == sheets.WITHDRAWN: f = 3
     return (f, a, b if sheets.USED[f] > 1 else rng.choice([0, sheets.value(rng)]), rng.choice([0, sheets.value(rng)]), sheets.often(rng), *known(f, a, b if sheets.USED[f] > 1 else 0, 0))
 
 
 def stored_row(f, a, b, c, times, *answer): return sheets.new_row(f, [x if k < sheets.USED[f] else 0 for k, x in enumerate((a, b, c))], answer, times)
 
 
-def worked(seed, rows, one=0):
+def worked(seed, rows):
     """A sheet of so many rows, each worked out."""
     rng = random.Random(seed)
-    return sheets.worked_out([stored_row(*some_row(rng, one)) for _ in range(rows)])
+    return sheets.worked_out([stored_row(*some_row(rng)) for _ in range(rows)])
 
 
-def text(seed, rows, one=0): return write(worked(seed, rows, one))
+def text(seed, rows): return write(worked(seed, rows))
 def text_cut(seed, rows): return text(seed, rows).rsplit(b'\n', 2)[0] + b'\n'  # without its last line
 
 
-def other_text(seed, rows, one=0):
+def other_text(seed, rows):
     """A text in many spellings, of so many rows."""
     rng = random.Random(seed)
-    return b''.join(b','.join(fields) + b'\n' for fields in [[b'%d' % rows]] + [spelt(rng, some_row(rng, one)) for _ in range(rows)])
+    return b''.join(b','.join(fields) + b'\n' for fields in [[b'%d' % rows]] + [spelt(rng, some_row(rng)) for _ in range(rows)])
 
 
 ZERO = b'+0x' + b'0' * 20 + b'.' + b'0' * 20 + b'p+000000'  # the longest spelling that reads
 LONGEST = b','.join([b'0', ZERO, ZERO, ZERO, b'65535', b'0', ZERO, ZERO])  # and the longest line that is taken
-LONGEST_READ = b','.join([b'0', ZERO, ZERO, ZERO, b'65535', b'9' * MOST_DIGITS, ZERO, ZERO])  # the longest that reads: its refusal number differs
 
 
 def longest_text(rows): return b'%d\n' % rows + (LONGEST + b'\n') * rows
-def longest_and_more(rows, more): return longest_text(rows) + b'0' * more  # and a line too many
-def longest_read(rows): return b'%d\n' % rows + (LONGEST_READ + b'\n') * rows
-def nines(digits, letters=0): return b'9' * digits + b'x' * letters
-
-
-HELD = len(longest_read(sheets.MOST_ROWS)) + 1  # bytes of a text that a program reads: one more than any has whose lines read
-
-
-def read_held(data, one):
-    """What a program says of a text: of a longer one it reads HELD bytes. Such a text is never taken: some line of it fails, if only as one too many."""
-    found = read(data[:HELD], one)
-    assert len(data) < HELD or isinstance(found, Refused)
-    return found
-
-
 def spelt(rng, row): return [b'%d' % x if k in (0, 4, 5) else other(rng, x) for k, x in enumerate(row)]
 
 
@@ -262,9 +246,9 @@ def fault(rng, every):
             fields[rng.choice([6, 7])] = other(rng, p ^ rng.choice([1, 2, sheets.SIGN, 1 << rng.randrange(64)]))
 
 
-def some_text(rng, one=False):
+def some_text(rng):
     """A text in many spellings, most often with something wrong."""
-    every = [spelt(rng, some_row(rng, one)) for _ in range(rng.choice([0, 1, 1, 2, 3, 5, rng.randrange(30)]))]
+    every = [spelt(rng, some_row(rng)) for _ in range(rng.choice([0, 1, 1, 2, 3, 5, rng.randrange(30)]))]
     every.insert(0, [b'%d' % len(every)])
     for _ in range(rng.choice([0, 0, 1, 1, 1, 2])): fault(rng, every)
     made = bytearray(b'\n'.join(map(b','.join, every)) + b'\n' * rng.choice([1, 1, 1, 0, 2 if rng.randrange(5) == 0 else 1]))
@@ -333,13 +317,6 @@ def longest():
     assert len(ZERO) == 52 and len(LONGEST) == 274 and read(of(LONGEST)) == read(longest_text(1)) == sheet_of((0,) * 8)
     assert field_at(5, b'22', LONGEST) and len(with_field(5, b'22', LONGEST)) == 275
     assert field_at(5, b'9999999999', LONGEST) and len(with_field(5, b'9999999999', LONGEST)) == 283
-    # and the longest texts: what is read of a text is one byte more than any has whose lines read
-    assert LONGEST_READ == with_field(5, b'9999999999', LONGEST) and HELD == 290822 and len(longest_text(1024)) == 281605
-    differs, extra = at(2, placed(LONGEST_READ)[5][0], blank=1024), at(1026, 1, blank=1024)
-    assert read_held(longest_text(1024), True) == sheet_of(*[(0,) * 8] * 1024) and read_held(longest_read(1024), True) == read_held(longest_read(1024) + b'x', True) == differs
-    for more in (1, 9215, 9216, 9217, 100000): assert read_held(longest_and_more(1024, more), True) == extra
-    for digits in (HELD - 1, HELD, HELD + 1): assert read_held(nines(digits), True) == Refused(11)
-    assert read_held(nines(HELD - 1, 1), True) == Refused(18, 1, 1) and read_held(nines(HELD, 1), True) == Refused(11)  # what lies behind is not read
 
 
 NO_WHOLES = {0: [b'', b'7', b'8', b'255', b'256', b'05', b'00', b'+5', b'-0', b' 5', b'5 ', b'a', b'0x5', b'4294967301', b'00000000005', b'10000000000'],
@@ -408,13 +385,6 @@ def function_1():
     assert read(of(LEG, line), True) == sheet_of(LEG_ROW, its) and write(sheet_of(LEG_ROW, its)) == of(LEG, line)
     assert read(of(LEG, with_field(6, b'0x1.daa4a35759e4dp+0', line)), True) == at(3, placed(line)[6][0], LEG_ROW, blank=1)
     assert read(of(LEG, with_field(0, b'7', line)), True) == at(3, 1, LEG_ROW, blank=1)
-    # at the ends, as 01 names them: refusals 1 and 2, m = 1, m = -∞
-    for p, q, first in [(NAN, 1, b'0x0p+0'), (ONE + 1, 2, b'0x0p+0'), (PLUS, 2, b'0x0p+0'), (ONE, 0, b'inf'), (MINUS, 0, b'0x0p+0'), (0, 0, b'0x1.921fb54442d18p+0')]:
-        end = b'1,%s,0x0p+0,0x0p+0,3,%d,%s,0x0p+0' % (floats.written(p).encode(), q, first)
-        assert read(of(end), True) == sheet_of((1, p, 0, 0, 3, q, number(first), 0))
-        assert read(of(with_field(5, b'5', end)), True).column == placed(end)[5][0] and read(of(with_field(6, b'0x1p+0', end)), True).column == placed(end)[6][0]
-        assert read(of(with_field(7, b'-0x0p+0', end)), True).column == placed(end)[7][0] and read(of(with_field(3, b'nan:7ff8000000000000', end)), True) == read(of(end), True)
-    for seed in range(30): assert read(text(seed, seed % 7, 1), True) == worked(seed, seed % 7, 1) and isinstance(read(other_text(seed, seed % 7, 1), True), bytes)
 
 
 def written_then_read():

@@ -8,7 +8,6 @@ A stored run is a text. Lines that begin with two spaces belong to the heading a
   run PROGRAM WORD..            the words, with \\xNN for a byte that is no plain letter, \\x for an empty one, =RECIPE,NUMBER.. for a long one, 400*WORD for so many
   file NAME                     a file before the run, as hex: fields as a sheet has them, `00*40` for 40 such bytes, `3 times` before a line that stands three times
   file NAME = RECIPE NUMBER..   the same, made by a function of RECIPES
-  text NAME                     a file before the run, as standard input is spelled
   folder NAME, link NAME -> NAME, mode NAME OCTAL
   input, or: input fails        standard input, then its end or a read that fails; a line that ends with a single \\ has no line feed; `input = RECIPE NUMBER..`
   printed                       standard output; a long one as its length and SHA-256
@@ -62,10 +61,6 @@ class Made(bytes):
     recipe = None
 
 
-class Text(bytes):
-    """A file that is spelled as lines."""
-
-
 def made(name, *numbers):
     one = Made(RECIPES[name](*numbers))
     one.recipe = ' '.join([name] + [str(n) for n in numbers])
@@ -99,8 +94,7 @@ def blank_and_more(rows, says, more): return blank(rows, says) + bytes(more)
 
 
 RECIPES = {'clears': clears, 'blank': blank, 'blank_and_more': blank_and_more, 'mixed': mixed, 'legs': legs_of, 'one_changed': one_changed, 'input': lines.many, 'edits': edits, 'zeros': lambda n: bytes(n), 'letters': lambda n: b'n' * n, 'dots': lambda n: b'./' * n + b'day',
-           'worked': texts.worked, 'text': texts.text, 'text_cut': texts.text_cut, 'other_text': texts.other_text, 'longest_text': texts.longest_text, 'nines': texts.nines, 'longest_and_more': texts.longest_and_more, 'longest_read': texts.longest_read,
-           'lines': lambda n: b'1\n' * n}
+           'worked': texts.worked, 'text': texts.text, 'text_cut': texts.text_cut, 'other_text': texts.other_text, 'longest_text': texts.longest_text, 'nines': lambda n: b'9' * n}
 
 
 # ---- random rows, worlds and lines
@@ -167,7 +161,7 @@ def harmed(rng, data):
     elif kind < 5: data[rng.randrange(32)] ^= 1 << rng.randrange(8)
     else:
         for _ in range(rng.randrange(1, 4)): data[rng.randrange(32, len(data))] = rng.choice([0, 1, 6, 7, 127, 128, 255, rng.randrange(256)])
-    return bytes(data)
+    return bytes(data) if not data[:1].isdigit() else b'x'
 
 
 def changed(rng, data):
@@ -184,15 +178,6 @@ def changed(rng, data):
     if rng.randrange(3) == 0: one.b[56 + 48 * r:] = (random_total(rng) % sheets.MODULUS).to_bytes(272, 'little')
     if rng.randrange(8) == 0: one.b[0] = 4 - one.b[0]
     return bytes(one.b)
-
-
-def report_text(rng):
-    """A text for a report, rows of function 1 among its own, most often with something wrong; all its answers are known."""
-    while True:
-        data = texts.some_text(rng, True)
-        try: texts.read(data, True)
-        except ValueError: continue
-        return data
 
 
 def some_file(rng): return harmed(rng, random_sheet(rng)) if rng.randrange(5) == 0 else random_sheet(rng)
@@ -236,12 +221,7 @@ def random_run(rng):
     if program == 'legread':
         words, text = [word()], texts.some_text(rng)
         given = Input(text, rng.randrange(25) == 0 and len(text) < 3000)
-    if program == 'legmonth':
-        words = [word() for _ in range(rng.choice([1, 2, 3, 6, rng.randrange(12)]))]
-        for name in present:
-            kind = rng.randrange(7)
-            if kind < 3: world.files[name] = report_text(rng)
-            if kind == 3: world.files[name] = rng.choice([texts.text, texts.other_text])(rng.random(), rng.randrange(12), 1)
+    if program == 'legmonth': words = [word() for _ in range(rng.choice([1, 2, 3, 6, rng.randrange(12)]))]
     if program == 'legdiff':
         words = [word(), word()]
         one = world.read(words[0])
@@ -367,7 +347,7 @@ def headed(title, data, spell, given=True):
 
 def spelled(run):
     out = ['# ' + run.note, ' '.join(['run', run.program] + spelled_words(run.words))]
-    for name, data in run.world.files.items(): out += headed('text ' + escaped(name), data, spelled_text) if isinstance(data, Text) else headed('file ' + escaped(name), data, spelled_bytes)
+    for name, data in run.world.files.items(): out += headed('file ' + escaped(name), data, spelled_bytes)
     out += ['folder ' + escaped(name) for name in sorted(run.world.folders)]
     out += ['link %s -> %s' % (escaped(a), escaped(b)) for a, b in run.world.links.items()]
     out += ['mode %s %03o' % (escaped(name), mode) for name, mode in run.world.modes.items()]
@@ -396,7 +376,6 @@ def read_run(name, text):
         if kind == '#': run.note = said
         elif kind == 'run': run.program, run.words = words[1], read_words(words[2:])
         elif kind == 'file': world.files[unescaped(words[1])] = given(read_bytes)
-        elif kind == 'text': world.files[unescaped(words[1])] = Text(given(read_text))
         elif kind == 'folder': world.folders.add(unescaped(words[1]))
         elif kind == 'link': world.links[unescaped(words[1])] = unescaped(words[3])
         elif kind == 'mode': world.modes[unescaped(words[1])] = int(words[2], 8)

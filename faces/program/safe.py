@@ -53,12 +53,10 @@ def readers():
     long = {b'one': made('blank_and_more', 1024, 3, 300000)}
     yield Run('legfix, a long file', '', 'legfix', [b'one'], World(long), Input())
     yield Run('legmonth, a long file', '', 'legmonth', [b'one', b'one'], World(long), Input())
-    yield Run('legmonth, a long text', '', 'legmonth', [b'one', b'two'], World({b'one': made('longest_and_more', 1024, 300000), b'two': made('text', 27, 1024, 1)}), Input())
     yield Run('legdiff, a long file', '', 'legdiff', [b'one', b'one'], World(long), Input())
     yield Run('legwrite, a long file', '', 'legwrite', [b'one'], World(long), Input())
     yield Run('legfix, no line', '', 'legfix', [b'one'], World(files), Input())
     yield Run('legmonth', '', 'legmonth', [b'one', b'two'], World(files), Input())
-    yield Run('legmonth, texts', '', 'legmonth', [b'text', b'one', b'ones'], World({**files, b'text': hextext_model.text(2, 3), b'ones': hextext_model.text(3, 4, 1)}), Input())
     yield Run('legdiff', '', 'legdiff', [b'one', b'two'], World(files), Input())
     yield Run('legwrite', '', 'legwrite', [b'one'], World(files), Input())
     yield Run('legsheet, no file', '', 'legsheet', [], World(), Input(program_model.EXAMPLE))
@@ -108,15 +106,15 @@ def order_faults(calls, writes):
     return wrong
 
 
-def reading_faults(calls, report):
-    """That no more of a file is read than tells a sheet from what is longer, in a report a text; that files are opened in the order of the words and closed, and in a report in turn, since no two may be held."""
-    read, open_now, wrong, most = 0, 0, [], hextext_model.HELD if report else files_model.LARGEST + 1
+def reading_faults(calls, in_turn):
+    """That no more of a file is read than tells a sheet from what is longer, that files are opened in the order of the words and closed, and in turn where no two may be held."""
+    read, open_now, wrong = 0, 0, []
     for _, what, answer, one, _ in calls:
         if what == 'open': read, open_now = 0, open_now + (answer >= 0)
         if what == 'leave': open_now -= 1
         if what == 'read': read += max(answer, 0)
-        if read > most: wrong.append('it reads %d bytes of a file' % read)
-        if open_now > 1 and report: wrong.append('it opens a file before it has closed the last')
+        if read > files_model.LARGEST + 1: wrong.append('it reads %d bytes of a file' % read)
+        if open_now > 1 and in_turn: wrong.append('it opens a file before it has closed the last')
     return wrong[:1] + (['it leaves a file open'] if open_now else [])
 
 

@@ -1,8 +1,8 @@
 -- From what the code of sine and cosine tests and calls to their definitions. Assumes nothing.
-use mathlib.Core.Path.{◌≡◌, refl, sym, ap, ◌∙◌, subst}
+use mathlib.Core.Path.{◌≡◌, refl, sym, ap, ap₂, ◌∙◌, subst}
 use mathlib.Core.Bool.{Bool, true, false, not, cond, ◌||◌, true≢false}
-use Prim.Native.Nat.{ℕ, zero, suc, ◌+◌, ◌*◌, ◌/◌, ◌^◌, ◌≤◌, ◌<◌, zero-le, min}
-use native.Mathlib.Nat.{mul_assoc, mul_comm, mul_left_comm, mul-one, mul-pos, le_trans, le_of_eq, lt_of_le_of_lt, zero-lt-suc, mul-le-mul_right, le_of_mul-le-mul_right, lt_irrefl, min-eq_left}
+use Prim.Native.Nat.{ℕ, zero, suc, ◌+◌, ◌-◌, ◌*◌, ◌/◌, ◌^◌, ◌≤◌, ◌<◌, zero-le, min}
+use native.Mathlib.Nat.{mul-add, add-mul, mul_assoc, mul_comm, mul_left_comm, mul-one, add-zero, mul-pos, le_trans, le_of_eq, lt_of_le_of_lt, zero-lt-suc, mul-le-mul_right, le_of_mul-le-mul_right, lt_irrefl, min-eq_left}
 use native.Mathlib.Omega.{arith}
 use lib.IntN.{ℤ, pos}
 use lib.Dec.{T, ltb, ltb→lt, nltb→le, lit<}
@@ -17,6 +17,7 @@ use Rattle.laws.specs.laws.Flags.{fails}
 use Rattle.laws.specs.laws.Digits.{pow_lt_back}
 use Rattle.laws.specs.laws.Kinds.{nan_of_lem}
 use Rattle.bits.specs.Parts.{PartsOf}
+use Rattle.bits.specs.Rounded.{rounded_of}
 use Rattle.answer.specs.declared.Answer.TheVariants.{One, Refused}
 use Rattle.bounds.specs.Close.{distance_of}
 use Rattle.angle.specs.Alternating.{square_of, alternating_of, up_to_four, Viewed}
@@ -24,6 +25,8 @@ use Rattle.angle.specs.Sine.{sine_at, sine_of}
 use Rattle.angle.specs.Cosine.{cosine_by, cosine_at, cosine_of}
 use Rattle.angle.specs.declared.series.Balance.{Balance}
 use Rattle.angle.proofs.Angles.{square_le}
+
+ruleset sorted = (mul-add, add-mul, mul_assoc, mul_comm, mul_left_comm)
 
 -- the code's test for |x| > 4
 abbrev far : Float → Bool
@@ -183,3 +186,29 @@ module _ {x : Float} {refusal : ℕ} {negative : Bool} {digits exponent square :
   unfolding cosine_of cosine_at
   is_cosine e =
       ap One (e ∙ ap cosine_by (min-eq_left view_square ∙ view.square_is z)) ∙ answered cosine_at cosine_same x negative (digits * 2 ^ exponent) (2 ^ 1074) (pow_pos 1074) (view.most z) (view.value z)
+
+-- ---- the one rounding counts in 2^-2340, the sum in 2^-60, and x in 2^-1074
+abbrev sum_unit : ℕ
+sum_unit = 2340 - 60
+
+abbrev product-unit : ℕ
+product-unit = sum_unit - 1074
+
+module _ (sign : Bool) where
+  pub product_rounded : (digits exponent gap w : ℕ) → w ≡ digits * gap → rounded_of sign w false (exponent + product-unit) ≡ round binary64 sign (digits * 2 ^ exponent * gap) (2 ^ 1074 * 2 ^ 60)
+  unfolding rounded_of
+  product_rounded digits exponent gap w ew =
+      round_same binary64 sign ((2 * w + 0) * 2 ^ (exponent + product-unit)) (2 ^ 2341) (digits * 2 ^ exponent * gap) (2 ^ 1074 * 2 ^ 60) (pow_pos 2341) (mul-pos (pow_pos 1074) (pow_pos 60))
+      (ap₂ (λ (u v : ℕ). (2 * u + 0) * v * (2 ^ 1074 * 2 ^ 60)) ew (pow-add 2 exponent product-unit)
+      ∙ ap (λ (y : ℕ). y * (2 ^ exponent * 2 ^ product-unit) * (2 ^ 1074 * 2 ^ 60)) (add-zero (2 * (digits * gap)))
+      ∙ moved digits gap (2 ^ exponent) (2 ^ product-unit) (2 ^ 1074) (2 ^ 60))
+    where
+      moved : (d g u a b c : ℕ) → 2 * (d * g) * (u * a) * (b * c) ≡ d * u * g * (2 * a * b * c)
+      moved d g u a b c = simp (mul_assoc, mul_comm, mul_left_comm)
+
+  pub sum_rounded : (gap : ℕ) → rounded_of sign (0 * 2 ^ 64 + gap) false sum_unit ≡ round binary64 sign gap (2 ^ 60)
+  unfolding rounded_of
+  sum_rounded gap = round_same binary64 sign ((2 * (0 * 2 ^ 64 + gap) + 0) * 2 ^ sum_unit) (2 ^ 2341) gap (2 ^ 60) (pow_pos 2341) (pow_pos 60) (moved gap (2 ^ sum_unit) (2 ^ 60))
+    where
+      moved : (g a b : ℕ) → (2 * (0 * 2 ^ 64 + g) + 0) * a * b ≡ g * (2 * a * b)
+      moved g a b = simp sorted (omega arith)

@@ -1,4 +1,6 @@
 // An f64 as its pattern and as its parts, numbers of two limbs, a quotient, and the one rounding.
+#![tactic(auto)]
+
 mod decoding;
 mod fields;
 mod pattern;

@@ -1,6 +1,5 @@
 -- The row count, cut or not, makes the same blank sheet or the same refusal. Assumes nothing.
 use mathlib.Core.Path.{◌≡◌, refl, sym, ap, ◌∙◌}
-use mathlib.Core.Bool.{Bool}
 use Prim.Native.Nat.{ℕ, ◌+◌, ◌≤◌, min}
 use native.Mathlib.Nat.{min-eq_left, min-eq_right, min-le_right}
 use native.Mathlib.Omega.{arith}
@@ -15,8 +14,8 @@ use Rattle.ledger.specs.laws.Refusals.{makeable}
 use Rattle.hexline.specs.Parts.{next_of}
 use Rattle.hextext.specs.HexText.{halt_at, came, rows_into, count_into, capped}
 
-module _ (old : Bool) (t s : List ℕ) where
-  pub no_count : (x : Number) → Not ≡ capped x → came s (halt_at 18 1 1) ≡ count_into old t s x
+module _ (t s : List ℕ) where
+  pub no_count : (x : Number) → Not ≡ capped x → came s (halt_at 18 1 1) ≡ count_into t s x
   unfolding capped count_into
   no_count Not e = refl
   no_count (Value r) e = let z : ◌≡◌ {A = ℕ} 0 1 = cc in absurd (omega arith)
@@ -31,14 +30,14 @@ module _ (old : Bool) (t s : List ℕ) where
       let many : n ≡ 1025 = e ∙ min-eq_right more in
       rw many (simp (lt-ltb most_rows r (omega arith))))
 
-  pub count_refused : (x : Number) (n : ℕ) → Value n ≡ capped x → (blank_refusal s n ≡ 0 → ⊥) → came s (halt_at (blank_refusal s n) 0 0) ≡ count_into old t s x
+  pub count_refused : (x : Number) (n : ℕ) → Value n ≡ capped x → (blank_refusal s n ≡ 0 → ⊥) → came s (halt_at (blank_refusal s n) 0 0) ≡ count_into t s x
   unfolding capped count_into
   count_refused Not n e bad = let z : ◌≡◌ {A = ℕ} 0 1 = cc in absurd (omega arith)
   count_refused (Value r) n e bad =
       let is : n ≡ min r (most_rows + 1) = cc in
       rw (← same_refusal n r is) (rw (ne_eqb (blank_refusal s n) 0 bad) refl)
 
-  pub count-taken : (x : Number) (n : ℕ) → Value n ≡ capped x → blank_refusal s n ≡ 0 → rows_into old t n (blank_of s n) 0 (next_of 10 t 0) ≡ count_into old t s x
+  pub count-taken : (x : Number) (n : ℕ) → Value n ≡ capped x → blank_refusal s n ≡ 0 → rows_into t n (blank_of s n) 0 (next_of 10 t 0) ≡ count_into t s x
   unfolding capped count_into
   count-taken Not n e good = let z : ◌≡◌ {A = ℕ} 0 1 = cc in absurd (omega arith)
   count-taken (Value r) n e good =

@@ -1,4 +1,3 @@
--- Rows one after the other (OneByOne), the row count (Counting), and the memory that it asks for (Lending).
+-- Rows one after the other (OneByOne), and the row count (Counting).
 mod OneByOne
 mod Counting
-mod Lending

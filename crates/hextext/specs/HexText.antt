@@ -1,14 +1,14 @@
 -- Hex text read into a lent sheet (02, [10]): the row count, then a line a row, each worked out again. Definitions only.
-use Rattle.std.specs.Prelude.{ℕ, zero, suc, ◌+◌, min, Bool, not, ◌&&◌, List, length, get_or, ltb, leb, eqb}
+use Rattle.std.specs.Prelude.{ℕ, zero, suc, ◌+◌, min, not, ◌&&◌, List, length, get_or, ltb, leb, eqb}
 use Rattle.laws.specs.Ladder.{when◌gives◌else◌}
 use Rattle.line.specs.declared.Number.{Number}
 use Rattle.line.specs.declared.Number.TheVariants.{Value, Not}
 use Rattle.line.specs.Line.{spell_of}
 use Rattle.ledger.specs.Bytes.{pattern_at}
 use Rattle.ledger.specs.Sheet.{withdrawn, most_rows, refusal_in}
-use Rattle.ledger.specs.Calls.{blank_refusal, blank_of, place_refusal, place_of}
+use Rattle.ledger.specs.Calls.{blank_refusal, blank_of}
 use Rattle.sheet.specs.declared.Entry.{Entry}
-use Rattle.sheet.specs.Edit.{row_of}
+use Rattle.sheet.specs.Edit.{row_of, edit_refusal, edit_of}
 use Rattle.hexline.specs.Parts.{part_at, next_of}
 use Rattle.hexline.specs.Fields.{column_of, stop_of, value_in}
 use Rattle.hextext.specs.declared.Halt.{Halt}
@@ -36,12 +36,11 @@ differ_of l =
     when not (eqb (pattern_at (row_of (entry_of l)) 40) (value_in l 7)) gives column_of l 7 else
     0
 
--- line k: 18 where it does not read; 22 for the function that goes out, but where it may still be entered (`old`: "read only into a report"); 18 where it says something
--- else than is worked out
-unfoldable pub line_halt : Bool → ℕ → List ℕ → Halt
-line_halt old k l =
+-- line k: 18 where it does not read; 22 for the function that goes out; 18 where it says something else than is worked out
+unfoldable pub line_halt : ℕ → List ℕ → Halt
+line_halt k l =
     when not (eqb (stop_of l) 0) gives halt_at 18 k (stop_of l) else
-    when not old && eqb (value_in l 0) withdrawn gives halt_at 22 k 0 else
+    when eqb (value_in l 0) withdrawn gives halt_at 22 k 0 else
     when not (eqb (differ_of l) 0) gives halt_at 18 k (differ_of l) else
     fine
 
@@ -55,22 +54,21 @@ pub record Came : Type 0 where
 abbrev pub came : List ℕ → Halt → Came
 came s h = record { sheet = s; end = h }
 
--- one line from the place `at` of the text, into row i: an edit (laws/Edits), but that `old` lets the function that goes out in
-unfoldable pub line_into : Bool → List ℕ → List ℕ → ℕ → ℕ → Came
-line_into old t s i at =
+-- one line from the place `at` of the text, into row i: an edit
+unfoldable pub line_into : List ℕ → List ℕ → ℕ → ℕ → Came
+line_into t s i at =
     let l = part_at 10 t at in
-    let w = row_of (entry_of l) in
     when leb (length t) at gives came s (halt_at 18 (i + 2) 1) else
-    when not (eqb (line_halt old (i + 2) l).refusal 0) gives came s (line_halt old (i + 2) l) else
-    came (place_of old s i w) (halt_at (place_refusal old s i w) (i + 2) 0)
+    when not (eqb (line_halt (i + 2) l).refusal 0) gives came s (line_halt (i + 2) l) else
+    came (edit_of s i (entry_of l)) (halt_at (edit_refusal s i (value_in l 0)) (i + 2) 0)
 
 -- so many rows from i on; then the text must be at its end
-unfoldable pub rows_into : Bool → List ℕ → ℕ → List ℕ → ℕ → ℕ → Came
-rows_into old t zero s i at =
+unfoldable pub rows_into : List ℕ → ℕ → List ℕ → ℕ → ℕ → Came
+rows_into t zero s i at =
     came s (when ltb at (length t) gives halt_at 18 (i + 2) 1 else fine)
-rows_into old t (suc k) s i at =
-    when not (eqb (line_into old t s i at).end.refusal 0) gives line_into old t s i at else
-    rows_into old t k (line_into old t s i at).sheet (i + 1) (next_of 10 t at)
+rows_into t (suc k) s i at =
+    when not (eqb (line_into t s i at).end.refusal 0) gives line_into t s i at else
+    rows_into t k (line_into t s i at).sheet (i + 1) (next_of 10 t at)
 
 -- the row count: decimal digits, however many, and no zero in front of others
 unfoldable pub count_of : List ℕ → Number
@@ -80,15 +78,15 @@ count_of l =
     spell_of 10 0 l
 
 -- "11 as in 01"; 7 where the lent sheet has another length
-unfoldable pub count_into : Bool → List ℕ → List ℕ → Number → Came
-count_into old t s Not = came s (halt_at 18 1 1)
-count_into old t s (Value r) =
+unfoldable pub count_into : List ℕ → List ℕ → Number → Came
+count_into t s Not = came s (halt_at 18 1 1)
+count_into t s (Value r) =
     when not (eqb (blank_refusal s r) 0) gives came s (halt_at (blank_refusal s r) 0 0) else
-    rows_into old t r (blank_of s r) 0 (next_of 10 t 0)
+    rows_into t r (blank_of s r) 0 (next_of 10 t 0)
 
 -- the call: after 18 or 22 in a row's line the sheet is blank but for the edits of the lines before
-unfoldable pub text_into : Bool → List ℕ → List ℕ → Came
-text_into old t s = count_into old t s (count_of (part_at 10 t 0))
+unfoldable pub text_into : List ℕ → List ℕ → Came
+text_into t s = count_into t s (count_of (part_at 10 t 0))
 
 -- what the code holds of a count: all above 1,024 are one
 unfoldable pub capped : Number → Number

@@ -34,7 +34,7 @@ fn digits(s: &[u8]) -> Number
 }
 
 // How many rows the text says that it has; 1,025 where it is more.
-pub(crate) fn rows(text: &[u8]) -> Number
+pub fn rows(text: &[u8]) -> Number
     ensures { result ≡ capped (count_of (part_at 10 text.now 0)) }
 {
     let s = part(10, text, 0);

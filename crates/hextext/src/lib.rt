@@ -2,17 +2,15 @@
 // fails ends it.
 mod count;
 mod row;
-mod taking;
 
 ghost use Rattle.std.specs.Prelude.{◌≡◌, ◌≤◌, ◌<◌};
 ghost use Rattle.ledger.specs.Sheet.{most_rows};
 ghost use Rattle.hextext.specs.HexText.{halt_at, came, line_into, rows_into, text_into};
 
-use count::rows;
+pub use count::rows;
 use hexline::{next, part};
 use line::Number;
 use row::{entry, line_halt};
-pub use taking::{MOST_TEXT, lent, take};
 
 // Why and where reading halted: the refusal, the line and the column, both from 1; 0 where there is none.
 #[derive(Drop)]
@@ -33,31 +31,31 @@ pub(crate) fn halted(refusal: u8, line: u32, column: usize) -> Halt
 }
 
 // One line from a place of the text, into row i.
-fn read_line(sheet: &mut [u8], text: &[u8], i: u32, at: usize, old: bool) -> Halt
+fn read_line(sheet: &mut [u8], text: &[u8], i: u32, at: usize) -> Halt
     requires { i < most_rows }
-    ensures { came sheet.new result ≡ line_into old text.now sheet.old i at }
+    ensures { came sheet.new result ≡ line_into text.now sheet.old i at }
 {
     if text.len() <= at {
         return halted(18, i + 2, 1);
     }
     let line = part(10, text, at);
-    let h = line_halt(i + 2, line, old);
+    let h = line_halt(i + 2, line);
     if h.refusal != 0 {
         return h;
     }
-    let refusal = ledger::place(sheet, i, sheet::words(entry(line)), old);
+    let refusal = sheet::edit(sheet, i, entry(line));
     halted(refusal, i + 2, 0)
 }
 
 // So many rows from a place of the text on.
-fn read_rows(sheet: &mut [u8], text: &[u8], rows: u32, from: usize, old: bool) -> Halt
+fn read_rows(sheet: &mut [u8], text: &[u8], rows: u32, from: usize) -> Halt
     requires { rows ≤ most_rows }
-    ensures { came sheet.new result ≡ rows_into old text.now rows sheet.old 0 from }
+    ensures { came sheet.new result ≡ rows_into text.now rows sheet.old 0 from }
 {
     let mut at = from;
     let mut i: u32 = 0;
     while i < rows {
-        let h = read_line(sheet, text, i, at, old);
+        let h = read_line(sheet, text, i, at);
         if h.refusal != 0 {
             return h;
         }
@@ -70,9 +68,9 @@ fn read_rows(sheet: &mut [u8], text: &[u8], rows: u32, from: usize, old: bool) -
     halted(0, 0, 0)
 }
 
-// The text, into the lent sheet; `old`: rows of the function that goes out are taken, as a report does ([13]).
-pub fn read_text(sheet: &mut [u8], text: &[u8], old: bool) -> Halt
-    ensures { came sheet.new result ≡ text_into old text.now sheet.old }
+// The text, into the lent sheet.
+pub fn read_text(sheet: &mut [u8], text: &[u8]) -> Halt
+    ensures { came sheet.new result ≡ text_into text.now sheet.old }
 {
     let Number::Value(n) = rows(text) else {
         return halted(18, 1, 1);
@@ -81,5 +79,5 @@ pub fn read_text(sheet: &mut [u8], text: &[u8], old: bool) -> Halt
     if refusal != 0 {
         return halted(refusal, 0, 0);
     }
-    read_rows(sheet, text, n as u32, next(10, text, 0), old)
+    read_rows(sheet, text, n as u32, next(10, text, 0))
 }

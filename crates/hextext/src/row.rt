@@ -54,15 +54,15 @@ fn differ(line: &[u8]) -> usize
     0
 }
 
-// Why line k is not taken; refusal 0 where it is. `old`: the function that goes out may be entered.
-pub(crate) fn line_halt(k: u32, line: &[u8], old: bool) -> Halt
-    ensures { result ≡ line_halt old k line.now }
+// Why line k is not taken; refusal 0 where it is.
+pub(crate) fn line_halt(k: u32, line: &[u8]) -> Halt
+    ensures { result ≡ line_halt k line.now }
 {
     let at = stop(line);
     if at != 0 {
         return halted(18, k, at);
     }
-    if !old & (value(line, 0) == WITHDRAWN) {
+    if value(line, 0) == WITHDRAWN {
         return halted(22, k, 0);
     }
     let at = differ(line);

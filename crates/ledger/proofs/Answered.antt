@@ -15,14 +15,14 @@ use Rattle.ledger.specs.Calls.{Sized, rows_in, row_in, counts_in, total_in, is_s
 use Rattle.ledger.specs.laws.Refusals.{length-counts, row_room, read_48, readable, sheet_length, a_sheet}
 
 -- ---- a row placed
-module _ (old : Bool) (s : List ℕ) (i : ℕ) (w : Row) (q : ℕ) (e : q ≡ place_refusal old s i w) where
-  pub place_refused : (q ≡ 0 → ⊥) → s ≡ place_of old s i w
+module _ (s : List ℕ) (i : ℕ) (w : Row) (q : ℕ) (e : q ≡ place_refusal s i w) where
+  pub place_refused : (q ≡ 0 → ⊥) → s ≡ place_of s i w
   unfolding place_of
-  place_refused h = rw (ne_eqb (place_refusal old s i w) 0 (λ z. h (e ∙ z)))
+  place_refused h = rw (ne_eqb (place_refusal s i w) 0 (λ z. h (e ∙ z)))
 
-  pub place-stored : q ≡ 0 → (t : List ℕ) → t ≡ edited s i w → t ≡ place_of old s i w
+  pub place-stored : q ≡ 0 → (t : List ℕ) → t ≡ edited s i w → t ≡ place_of s i w
   unfolding place_of
-  place-stored h t d = rw (eq-eqb (place_refusal old s i w) 0 (sym e ∙ h)) d
+  place-stored h t d = rw (eq-eqb (place_refusal s i w) 0 (sym e ∙ h)) d
 
 -- ---- a row read: what the calls on a row's own bytes need, and what decides between the two things that they hand back
 module _ (s : List ℕ) (i q : ℕ) (e : q ≡ row_refusal s i) where

@@ -1,6 +1,6 @@
 -- The refusals, test by test. Assumes nothing.
 use mathlib.Core.Path.{◌≡◌, refl, ap}
-use mathlib.Core.Bool.{Bool, true, false, cond, not, ◌&&◌, ◌||◌, false≢true}
+use mathlib.Core.Bool.{Bool, true, false, cond, not, ◌||◌, false≢true}
 use mathlib.Core.List.{List}
 use Prim.Native.Nat.{ℕ, ◌≤◌, ◌<◌}
 use borrow.Author.Tests.{eq-eqb, ne_eqb, le-leb, lt-leb, le-ltb}
@@ -9,7 +9,7 @@ use lib.ListN.{length, take, get_or}
 use Rattle.answer.specs.Numbers.{last}
 use Rattle.ledger.specs.Bytes.{number, read}
 use Rattle.ledger.specs.Sheet.{Row, withdrawn, without_times, with_times, most_rows, size_for, entries, function_in, class_of, sound}
-use Rattle.ledger.specs.Calls.{Sized, rows_in, row_in, counts_in, equal, is_sheet_of, is_sheet, plus, miscounted, damaged, row_rungs, function_rungs, total_refusal, place_refusal}
+use Rattle.ledger.specs.Calls.{Sized, rows_in, row_in, counts_in, equal, is_sheet_of, is_sheet, plus, miscounted, damaged, row_rungs, function_rungs, rungs, total_refusal, place_refusal}
 use Rattle.ledger.specs.laws.Refusals.{says, past_function}
 
 -- ---- a sheet that says k
@@ -81,9 +81,9 @@ module _ (taken : Bool) (r i : ℕ) where
     pub row_0 : i < r → 0 ≡ row_rungs taken r i
     row_0 g = rw (h, lt-leb _ _ g)
 
-module _ (old : Bool) (s : List ℕ) (i : ℕ) (w : Row) where
-  pub place-row : let q = row_rungs (is_sheet_of with_times s) (rows_in s) i in (q ≡ 0 → ⊥) → q ≡ place_refusal old s i w
-  unfolding place_refusal
+module _ (s : List ℕ) (i : ℕ) (w : Row) where
+  pub place-row : let q = row_rungs (is_sheet_of with_times s) (rows_in s) i in (q ≡ 0 → ⊥) → q ≡ place_refusal s i w
+  unfolding place_refusal rungs
   place-row h = go (is_sheet_of with_times s) (leb (rows_in s) i) _ h
     where
       go : (p q : Bool) (rest : ℕ) → (◌≡◌ {A = ℕ} (cond (not p) 7 (cond q 8 0)) 0 → ⊥) → ◌≡◌ {A = ℕ} (cond (not p) 7 (cond q 8 0)) (cond (not p) 7 (cond q 8 rest))
@@ -92,27 +92,27 @@ module _ (old : Bool) (s : List ℕ) (i : ℕ) (w : Row) where
       go false q rest h = refl
 
   module _ (h : is_sheet_of with_times s ≡ true) (g : i < rows_in s) where
-    pub place_function : let q = function_rungs old (function_in w) 0 in (q ≡ 0 → ⊥) → q ≡ place_refusal old s i w
-    unfolding place_refusal
-    place_function k = rw (h, lt-leb _ _ g) (go (not old && eqb (function_in w) withdrawn) (ltb last (function_in w)) _ k)
+    pub place_function : let q = function_rungs (function_in w) 0 in (q ≡ 0 → ⊥) → q ≡ place_refusal s i w
+    unfolding place_refusal rungs
+    place_function k = rw (h, lt-leb _ _ g) (go (eqb (function_in w) withdrawn) (ltb last (function_in w)) _ k)
       where
         go : (p q : Bool) (rest : ℕ) → (◌≡◌ {A = ℕ} (cond p 22 (cond q 9 0)) 0 → ⊥) → ◌≡◌ {A = ℕ} (cond p 22 (cond q 9 0)) (cond p 22 (cond q 9 rest))
         go true q rest e = refl
         go false true rest e = refl
         go false false rest e = absurd (e refl)
 
-    module _ (z : function_rungs old (function_in w) 0 ≡ 0) where
-      may : ((not old && eqb (function_in w) withdrawn) ≡ false) × (function_in w ≤ last) × (◌≡◌ {A = ℕ} 0 0)
-      may = past_function old (function_in w) 0 z
+    module _ (z : function_rungs (function_in w) 0 ≡ 0) where
+      may : (eqb (function_in w) withdrawn ≡ false) × (function_in w ≤ last) × (◌≡◌ {A = ℕ} 0 0)
+      may = past_function (function_in w) 0 z
 
-      pub place_new : sound w ≡ false → 10 ≡ place_refusal old s i w
-      unfolding place_refusal
+      pub place_new : sound w ≡ false → 10 ≡ place_refusal s i w
+      unfolding place_refusal rungs
       place_new d = rw (h, lt-leb _ _ g, may.0, le-ltb _ _ may.1, d)
 
-      pub place_old : sound w ≡ true → damaged s i ≡ true → 10 ≡ place_refusal old s i w
-      unfolding place_refusal
+      pub place_old : sound w ≡ true → damaged s i ≡ true → 10 ≡ place_refusal s i w
+      unfolding place_refusal rungs
       place_old d e = rw (h, lt-leb _ _ g, may.0, le-ltb _ _ may.1, d, e)
 
-      pub place_0 : sound w ≡ true → damaged s i ≡ false → 0 ≡ place_refusal old s i w
-      unfolding place_refusal
+      pub place_0 : sound w ≡ true → damaged s i ≡ false → 0 ≡ place_refusal s i w
+      unfolding place_refusal rungs
       place_0 d e = rw (h, lt-leb _ _ g, may.0, le-ltb _ _ may.1, d, e)

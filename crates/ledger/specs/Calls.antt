@@ -59,10 +59,10 @@ miscounted s i = not (eqb (plus (counts_in s)) (rows_in s)) || eqb (get_or (coun
 unfoldable pub damaged : List ℕ → ℕ → Bool
 damaged s i = not (sound (row_in s i)) || miscounted s i
 
--- a new row's function: 22 for the one that goes out, but where it may still stand (`old`); 9 for a number that is no function's
-abbrev pub function_rungs : Bool → ℕ → ℕ → ℕ
-function_rungs old f rest =
-    when not old && eqb f withdrawn gives 22 else
+-- a new row's function: 22 for the one that goes out, 9 for a number that is no function's
+abbrev pub function_rungs : ℕ → ℕ → ℕ
+function_rungs f rest =
+    when eqb f withdrawn gives 22 else
     when ltb last f gives 9 else
     rest
 
@@ -70,7 +70,7 @@ function_rungs old f rest =
 unfoldable pub rungs : ℕ → ℕ → ℕ → ℕ → ℕ
 rungs r i f rest =
     when leb r i gives 8 else
-    function_rungs false f rest
+    function_rungs f rest
 
 -- "The total: 7."
 unfoldable pub total_refusal : List ℕ → ℕ
@@ -89,13 +89,11 @@ row_rungs taken rows i =
 unfoldable pub row_refusal : List ℕ → ℕ → ℕ
 row_refusal s i = row_rungs (is_sheet s) (rows_in s) i
 
--- row w in place of row i: 7 also for a sheet without times, which is only read; 22 where no row of the function that goes out is let in (`old` lets it); 10 also
--- where w is no row that an edit stores
-unfoldable pub place_refusal : Bool → List ℕ → ℕ → Row → ℕ
-place_refusal old s i w =
+-- row w in place of row i: 7 also for a sheet without times, which is only read; 10 also where w is no row that an edit stores
+unfoldable pub place_refusal : List ℕ → ℕ → Row → ℕ
+place_refusal s i w =
     when not (is_sheet_of with_times s) gives 7 else
-    when leb (rows_in s) i gives 8 else
-    function_rungs old (function_in w) (when not (sound w) || damaged s i gives 10 else 0)
+    rungs (rows_in s) i (function_in w) (when not (sound w) || damaged s i gives 10 else 0)
 
 -- "make blank (11, then 7 for the length)"
 unfoldable pub blank_refusal : List ℕ → ℕ → ℕ
@@ -133,8 +131,8 @@ unfoldable pub edited : List ℕ → ℕ → Row → List ℕ
 edited s i w = splice (splice s (row_place i) w) (row_place (rows_in s)) (revised s (row_in s i) w)
 
 -- the same, of any bytes; a refused call changes none
-unfoldable pub place_of : Bool → List ℕ → ℕ → Row → List ℕ
-place_of old s i w = when eqb (place_refusal old s i w) 0 gives edited s i w else s
+unfoldable pub place_of : List ℕ → ℕ → Row → List ℕ
+place_of s i w = when eqb (place_refusal s i w) 0 gives edited s i w else s
 
 -- the row's own bytes; none where the read is refused
 unfoldable pub read_of : List ℕ → ℕ → List ℕ

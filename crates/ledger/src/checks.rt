@@ -111,12 +111,12 @@ pub fn row_refusal(sheet: &[u8], row: u32) -> u8
 // The function that goes out: rows of it stand, and no new one is put in (02, [13]).
 const WITHDRAWN: u8 = 1;
 
-// What refuses a new row's function, or 0; `old`: the one that goes out may stand.
-fn refusal_of_function(words: [u64; 6], old: bool) -> u8
-    ensures { result ≡ function_rungs old (function_in (fields 8 words)) 0 }
+// What refuses a new row's function, or 0.
+fn refusal_of_function(words: [u64; 6]) -> u8
+    ensures { result ≡ function_rungs (function_in (fields 8 words)) 0 }
 {
     let function = function_of(words);
-    if !old & (function == WITHDRAWN) {
+    if function == WITHDRAWN {
         return 22;
     }
     if function > LAST {
@@ -126,14 +126,14 @@ fn refusal_of_function(words: [u64; 6], old: bool) -> u8
 }
 
 // A sheet without times is only read.
-pub(crate) fn refusal_of_place(s: &[u8], row: u32, words: [u64; 6], old: bool) -> u8
-    ensures { result ≡ place_refusal old s.now row (fields 8 words) }
+pub(crate) fn refusal_of_place(s: &[u8], row: u32, words: [u64; 6]) -> u8
+    ensures { result ≡ place_refusal s.now row (fields 8 words) }
 {
     let refusal = refusal_in(s, row, says(s, 3));
     if refusal != 0 {
         return refusal;
     }
-    let unfit = refusal_of_function(words, old);
+    let unfit = refusal_of_function(words);
     if unfit != 0 {
         return unfit;
     }

@@ -86,12 +86,11 @@ fn store(sheet: &mut [u8], row: u32, words: [u64; 6])
     revise(sheet, old, new);
 }
 
-// A row of these words in place of another: 7 (no sheet, or one without times), 8, 22 and 9 (their function; with `old` a row of the one that goes out is let in), 10 (the old row or the
-// counts damaged, or the new row not one that an edit stores), or 0, stored.
-pub fn place(sheet: &mut [u8], row: u32, words: [u64; 6], old: bool) -> u8
-    ensures { (result ≡ place_refusal old sheet.old row (fields 8 words)) × (sheet.new ≡ place_of old sheet.old row (fields 8 words)) }
+// A row of these words in place of another: 7 (no sheet, or one without times), 8, 22 and 9 (their function), 10 (the old row or the counts damaged, or the new row not one that an edit stores), or 0, stored.
+pub fn place(sheet: &mut [u8], row: u32, words: [u64; 6]) -> u8
+    ensures { (result ≡ place_refusal sheet.old row (fields 8 words)) × (sheet.new ≡ place_of sheet.old row (fields 8 words)) }
 {
-    let refusal = refusal_of_place(sheet, row, words, old);
+    let refusal = refusal_of_place(sheet, row, words);
     if refusal != 0 {
         return refusal;
     }

@@ -23,14 +23,10 @@ pub record Brought (room : ℕ) (file : ℤ) (bytes : List ℕ) (ok : Bool) : Ty
   pub fills : Fills room file 0 reads ok
   pub is : bytes ≡ input_of reads
 
--- the file of this name, into such a buffer: its bytes, and whether they could be read; none where it could not be opened, or a read failed
-pub data LoadIn (room : ℕ) (name : List ℕ) : List ℕ → Bool → Type 0 where
-  unopened : (file : ℤ) → Called (opens name file) → lt_z file (pos 0) ≡ true → LoadIn room name [] false
-  opened : {bytes : List ℕ} (file : ℤ) (shut : Bool) → Called (opens name file) → lt_z file (pos 0) ≡ false → Brought room file bytes true → Called (closes file shut)
-      → LoadIn room name bytes true
-  broken : {bytes : List ℕ} (file : ℤ) (shut : Bool) → Called (opens name file) → lt_z file (pos 0) ≡ false → Brought room file bytes false → Called (closes file shut)
-      → LoadIn room name [] false
-
--- a sheet's
-abbrev pub Load : List ℕ → List ℕ → Bool → Type 0
-Load = LoadIn most
+-- the file of this name: its bytes, and whether they could be read; none where it could not be opened, or a read failed
+pub data Load (name : List ℕ) : List ℕ → Bool → Type 0 where
+  unopened : (file : ℤ) → Called (opens name file) → lt_z file (pos 0) ≡ true → Load name [] false
+  opened : {bytes : List ℕ} (file : ℤ) (shut : Bool) → Called (opens name file) → lt_z file (pos 0) ≡ false → Brought most file bytes true → Called (closes file shut)
+      → Load name bytes true
+  broken : {bytes : List ℕ} (file : ℤ) (shut : Bool) → Called (opens name file) → lt_z file (pos 0) ≡ false → Brought most file bytes false → Called (closes file shut)
+      → Load name [] false

@@ -2,7 +2,7 @@
 ghost use Rattle.std.specs.Prelude.{◌≡◌, ◌≤◌, length, take, drop};
 ghost use Rattle.files.specs.Calls.{Called, opens, read, reads};
 ghost use Rattle.files.specs.Output.{Wrote};
-ghost use Rattle.loading.specs.Load.{Brought, LoadIn, Load};
+ghost use Rattle.loading.specs.Load.{Brought, Load};
 ghost use Rattle.loading.specs.Notes.{cannot_read, refused7, number_line};
 
 use files::{Output, put, put_note};
@@ -63,8 +63,8 @@ pub fn read_whole(file: i32, into: &mut [u8]) -> Loaded
 }
 
 // The bytes of the file of this name, at the start of the buffer, as far as it goes. A folder opens, and its read fails.
-pub fn load_into(name: &[u8], into: &mut [u8]) -> Loaded
-    ensures load_in { LoadIn (length into.old) name.now (take result.length into.new) result.ok }
+pub fn load(name: &[u8], into: &mut [u8; MOST]) -> Loaded
+    ensures load { Load name.now (take result.length into.new) result.ok }
     ensures length_in_bounds { result.length ≤ length into.new }
 {
     let file = open(name);
@@ -83,14 +83,6 @@ pub fn load_into(name: &[u8], into: &mut [u8]) -> Loaded
         };
     }
     loaded
-}
-
-// The same, into a sheet's buffer.
-pub fn load(name: &[u8], into: &mut [u8; MOST]) -> Loaded
-    ensures load { Load name.now (take result.length into.new) result.ok }
-    ensures length_in_bounds { result.length ≤ length into.new }
-{
-    load_into(name, into)
 }
 
 // The file can't be opened or read.

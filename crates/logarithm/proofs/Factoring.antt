@@ -2,7 +2,7 @@
 use mathlib.Core.Path.{◌≡◌, refl, sym, ap, ap₂, ◌∙◌, subst}
 use mathlib.Core.Bool.{Bool, true, false, not, cond, ◌||◌, true≢false}
 use Prim.Native.Nat.{ℕ, zero, suc, ◌+◌, ◌-◌, ◌*◌, ◌/◌, ◌%◌, ◌^◌, ◌≤◌, ◌<◌}
-use native.Mathlib.Nat.{mul_assoc, mul_comm, mul_left_comm, zero-mul, mul-pos, le_trans, le_of_eq, le_of_lt, lt_of_lt_of_le, zero-lt-suc, mul-le-mul_right, mul-lt-mul_of_pos_right, le_of_mul-le-mul_right, lt_of_mul-lt-mul_right, mod-eq_of_lt, zero-div, add_comm, mul-div_cancel}
+use native.Mathlib.Nat.{mul-add, add-mul, mul_assoc, mul_comm, mul_left_comm, zero-mul, mul-pos, le_trans, le_of_eq, le_of_lt, lt_of_lt_of_le, zero-lt-suc, mul-le-mul_right, mul-lt-mul_of_pos_right, le_of_mul-le-mul_right, lt_of_mul-lt-mul_right, mod-eq_of_lt, zero-div, add_comm, mul-div_cancel}
 use native.Mathlib.Omega.{arith}
 use lib.IntN.{ℤ}
 use lib.Dec.{T, ltb, leb, eqb, leb→le, nleb→lt, eqb→eq, lit≤}
@@ -13,16 +13,17 @@ use lib.Ieee.Bits.{is_false}
 use lib.Ieee.Exact.{HasValue}
 use lib.Ieee.Fits.{up_pos, down_pos}
 use lib.Ieee.Nearest.{div_same}
+use lib.Ieee.Scale.{round_same}
 use Rattle.laws.specs.laws.Digits.{leading, zeros-lt, zeros-ge, moved}
 use Rattle.bits.specs.Parts.{Decoded, PartsOf}
 use Rattle.bits.specs.Rounded.{rounded_of}
-use Rattle.bits.specs.laws.Units.{sum_rounded}
 use Rattle.answer.specs.declared.Answer.TheVariants.{One, Refused}
 use Rattle.logarithm.specs.Series.{units_of, places}
 use Rattle.bounds.specs.Close.{distance_of}
-use Rattle.bounds.specs.Sums.{run_of}
-use Rattle.logarithm.specs.Logarithm.{part_of, third, logarithm_at, logarithm_of, Factored}
+use Rattle.logarithm.specs.Logarithm.{odds_of, part_of, third, logarithm_at, logarithm_of, Factored}
 use Rattle.logarithm.specs.laws.Places.{Middle, places_only, places_middle}
+
+ruleset sorted = (mul-add, add-mul, mul_assoc, mul_comm, mul_left_comm)
 
 -- ---- `factored`: f from a number n of 53 or 54 digits
 factors : (N n w above below : ℕ) → 0 < N → N * 2 ^ 53 ≡ n * 2 ^ w → 3 * 2 ^ 53 ≤ 4 * n → 2 * n < 3 * 2 ^ 53 → above ≡ w - 1074 → below ≡ 1074 - w → Factored N n above below
@@ -120,20 +121,20 @@ module _ (digits exponent : ℕ) (pos : 0 < digits) (small : digits < 2 ^ 53) wh
 -- ---- `part`
 pub part_none : (a b c : ℕ) → a ≤ b → 0 ≡ part_of (a - b) c
 unfolding part_of
-part_none a b c h = sym (ap (λ (x : ℕ). x * run_of (x * x / 2 ^ 64) 1 2 21 / 2 ^ 64) (ap (λ (x : ℕ). x * 2 ^ 64 / c) (none a b h) ∙ zero-div c) ∙ ap (λ (x : ℕ). x / 2 ^ 64) (zero-mul (run_of (0 * 0 / 2 ^ 64) 1 2 21)))
+part_none a b c h = sym (ap (λ (x : ℕ). x * odds_of (x * x / 2 ^ 64) 1 21 / 2 ^ 64) (ap (λ (x : ℕ). x * 2 ^ 64 / c) (none a b h) ∙ zero-div c) ∙ ap (λ (x : ℕ). x / 2 ^ 64) (zero-mul (odds_of (0 * 0 / 2 ^ 64) 1 21)))
   where
     none : (a b : ℕ) → a ≤ b → a - b ≡ 0
     none a b h = omega arith
 
-pub is_part : (a c t w h v : ℕ) → t ≡ a * 2 ^ 64 / c → w ≡ t * t / 2 ^ 64 → h ≡ run_of w 1 2 21 → v ≡ t * h / 2 ^ 64 → v ≡ part_of a c
+pub is_part : (a c t w h v : ℕ) → t ≡ a * 2 ^ 64 / c → w ≡ t * t / 2 ^ 64 → h ≡ odds_of w 1 21 → v ≡ t * h / 2 ^ 64 → v ≡ part_of a c
 unfolding part_of
 is_part a c t w h v et ew eh ev =
-    ev ∙ ap (λ (x : ℕ). t * x / 2 ^ 64) (eh ∙ ap (λ (x : ℕ). run_of x 1 2 21) ew) ∙ ap (λ (x : ℕ). x * run_of (x * x / 2 ^ 64) 1 2 21 / 2 ^ 64) et
+    ev ∙ ap (λ (x : ℕ). t * x / 2 ^ 64) (eh ∙ ap (λ (x : ℕ). odds_of x 1 21) ew) ∙ ap (λ (x : ℕ). x * odds_of (x * x / 2 ^ 64) 1 21 / 2 ^ 64) et
 
 -- it sees the fraction alone
 part_same : (a b a' b' : ℕ) → 0 < b → 0 < b' → a * b' ≡ a' * b → part_of a b ≡ part_of a' b'
 unfolding part_of
-part_same a b a' b' B B' e = ap (λ (x : ℕ). x * run_of (x * x / 2 ^ 64) 1 2 21 / 2 ^ 64) (div_same (a * 2 ^ 64) b (a' * 2 ^ 64) b' B B' (swap a (2 ^ 64) b' ∙ ap (λ (x : ℕ). x * 2 ^ 64) e ∙ sym (swap a' (2 ^ 64) b)))
+part_same a b a' b' B B' e = ap (λ (x : ℕ). x * odds_of (x * x / 2 ^ 64) 1 21 / 2 ^ 64) (div_same (a * 2 ^ 64) b (a' * 2 ^ 64) b' B B' (swap a (2 ^ 64) b' ∙ ap (λ (x : ℕ). x * 2 ^ 64) e ∙ sym (swap a' (2 ^ 64) b)))
   where
     swap : (x y z : ℕ) → x * y * z ≡ x * z * y
     swap x y z = simp (mul_assoc, mul_comm, mul_left_comm)
@@ -231,7 +232,13 @@ module _ (N n above below : ℕ) (pos : 0 < N) (s : Factored N n above below) wh
 
     -- the sign and the difference, as the code finds them
     pub is_log : (t : Bool) (v : ℕ) (r : Float) → t ≡ ltb A B → v ≡ distance_of A B → r ≡ rounded_of t v false sum_unit → r ≡ logarithm_at N
-    is_log t v r et ev er = er ∙ sum_rounded t 62 v (lit≤ tt) ∙ ap₂ (λ (x : Bool) (y : ℕ). round binary64 x y (2 ^ 62)) et ev ∙ at_is
+    unfolding rounded_of
+    is_log t v r et ev er =
+        er ∙ round_same binary64 t ((2 * v + 0) * 2 ^ sum_unit) (2 ^ 2341) v (2 ^ 62) (pow_pos 2341) (pow_pos 62) (moved' v (2 ^ sum_unit) (2 ^ 62))
+        ∙ ap₂ (λ (x : Bool) (y : ℕ). round binary64 x y (2 ^ 62)) et ev ∙ at_is
+      where
+        moved' : (v a b : ℕ) → (2 * v + 0) * a * b ≡ v * (2 * a * b)
+        moved' v a b = simp sorted (omega arith)
 
 pub distance_up : (A B v : ℕ) → A < B → v ≡ B - A → v ≡ distance_of A B
 distance_up A B v h e = omega arith

@@ -17,7 +17,7 @@ use Rattle.logarithm.specs.Logarithm.{part_of, third, logarithm_at, logarithm_of
 use Rattle.logarithm.specs.laws.Places.{places_middle, places-le, units_pos, units_lt}
 use Rattle.bounds.specs.laws.Held.{Held, wider, sum-held, times-held}
 use Rattle.bounds.specs.laws.Rounds.{in_range, closes, plainly}
-use Rattle.logarithm.proofs.Part.{part_held, part_le, third-held}
+use Rattle.logarithm.proofs.Odds.{part_held, part_le, third-held}
 
 -- k S(1/3) + S(a / b), for a / b ≤ 1/5
 side-held : (k a b : ℕ) → 0 < b → 5 * a ≤ b → Held 1 (2 ^ 62) (k * third + part_of a b) (k * third + part_of a b + (k + 3)) (times k (S 1 3) ⊞ S a b)

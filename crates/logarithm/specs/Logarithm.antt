@@ -1,17 +1,21 @@
 -- The steps of the logarithm: docs/STEPS.md, "Logarithm". Definitions only.
-use Rattle.std.specs.Prelude.{◌≡◌, ◌||◌, ℕ, ◌+◌, ◌-◌, ◌*◌, ◌/◌, ◌^◌, ltb, eqb, Float}
+use Rattle.std.specs.Prelude.{◌≡◌, ◌||◌, ℕ, zero, suc, ◌+◌, ◌-◌, ◌*◌, ◌/◌, ◌^◌, ltb, eqb, Float}
 use Rattle.std.specs.Float.{nan, inf, fin, binary64}
 use Rattle.std.specs.Float.Ieee.{round}
 use Rattle.laws.specs.Ladder.{when◌gives◌else◌}
 use Rattle.answer.specs.declared.Answer.{Answer}
 use Rattle.answer.specs.declared.Answer.TheVariants.{One, Refused}
 use Rattle.bounds.specs.Close.{distance_of}
-use Rattle.bounds.specs.Sums.{run_of}
 use Rattle.logarithm.specs.Series.{units_of, places}
+
+-- k terms of 1 / n + w / (n + 2) + w² / (n + 4) + .., w in units of 2^-64, the sum in units of 2^-63, each quotient cut
+unfoldable pub odds_of : ℕ → ℕ → ℕ → ℕ
+odds_of w n zero = 0
+odds_of w n (suc k) = 2 ^ 63 / n + w * odds_of w (n + 2) k / 2 ^ 64
 
 -- S(a / b) = 2 t (1 + t² / 3 + .. + t⁴⁰ / 41) of t = a / b, in units of 2^-62
 unfoldable pub part_of : ℕ → ℕ → ℕ
-part_of a b = let t = a * 2 ^ 64 / b in t * run_of (t * t / 2 ^ 64) 1 2 21 / 2 ^ 64
+part_of a b = let t = a * 2 ^ 64 / b in t * odds_of (t * t / 2 ^ 64) 1 21 / 2 ^ 64
 
 -- S(1/3) in units of 2^-62, cut
 abbrev pub third : ℕ

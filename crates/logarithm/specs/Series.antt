@@ -1,5 +1,5 @@
 -- The sum of the logarithm of 01, module 2, as an exact fraction, and 01's bound of it. Definitions only.
-use Rattle.std.specs.Prelude.{◌≡◌, false, cond, ◌||◌, ℕ, ◌+◌, ◌-◌, ◌*◌, ◌/◌, ◌^◌, ltb, eqb, Float}
+use Rattle.std.specs.Prelude.{◌≡◌, false, cond, ◌||◌, ℕ, zero, suc, ◌+◌, ◌-◌, ◌*◌, ◌/◌, ◌^◌, ltb, eqb, Float}
 use Rattle.std.specs.Float.{nan, inf, fin}
 use Rattle.std.specs.Float.Ieee.{up, down, size}
 use Rattle.answer.specs.declared.Answer.{Answer}
@@ -7,11 +7,15 @@ use Rattle.answer.specs.declared.Answer.TheVariants.{Refused}
 use Rattle.answer.specs.Answer.{OneThat}
 use Rattle.bounds.specs.Fractions.{Fraction, Difference, ◌over◌, ◌⊞◌, times}
 use Rattle.bounds.specs.Close.{distance_of, Close}
-use Rattle.bounds.specs.Sums.{powers}
+
+-- k terms of t^n / n + t^(n + 2) / (n + 2) + .. at t = p / q
+unfoldable pub odds : ℕ → ℕ → ℕ → ℕ → Fraction
+odds p q n zero = 0 over 1
+odds p q n (suc k) = (p ^ n over (n * q ^ n)) ⊞ odds p q (n + 2) k
 
 -- 2 (t + t³ / 3 + .. + t⁴¹ / 41)
 abbrev pub S : ℕ → ℕ → Fraction
-S p q = times 2 (powers p q 1 2 21)
+S p q = times 2 (odds p q 1 21)
 
 -- ---- x = 2^k f with 3/4 ≤ f < 3/2 (laws/Places shows that this is so, and of no other k)
 

@@ -65,12 +65,11 @@ extremes_text largest smallest = extreme_text (ascii "largest ") largest ++ extr
 unfoldable pub report_text : ℕ → Report → List ℕ
 report_text apart r = head_text r.sheets apart r.counts ++ sums_text (val r.total) ++ extremes_text r.largest r.smallest ++ refusal_lines r.refusals 32
 
--- ---- the start of a file's line, its name to follow: 10 and the row; 18, of a text, with line and column; another number alone; or it can't be read
+-- ---- the start of a file's line, its name to follow: 7; 10 and the row; or it can't be read
 
-unfoldable pub stop_text : ℕ → ℕ → ℕ → List ℕ
-stop_text refusal place column =
-    when eqb refusal 10 gives note (ascii "file 10 row ") place ++ space else
-    when eqb refusal 18 gives (note (ascii "file 18 line ") place ++ space) ++ (note (ascii "column ") column ++ space) else
+unfoldable pub stop_text : ℕ → ℕ → List ℕ
+stop_text refusal row =
+    when eqb refusal 10 gives note (ascii "file 10 row ") row ++ space else
     note (ascii "file ") refusal ++ space
 
 unfoldable pub unread_text : List ℕ

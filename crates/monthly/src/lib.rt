@@ -1,13 +1,11 @@
 // What legmonth prints: the month's report, written into a lent buffer, and the start of the line of a file that is not taken.
 mod lines;
 
-ghost use Rattle.std.specs.Prelude.{◌++◌, ◌+◌, ◌≤◌, length};
+ghost use Rattle.std.specs.Prelude.{◌+◌, ◌≤◌, length};
 ghost use Rattle.total.specs.Total.{val};
-ghost use Rattle.laws.specs.Ascii.{ascii};
-ghost use Rattle.text.specs.Text.{space};
 ghost use Rattle.text.specs.Writing.{Put};
 ghost use Rattle.placing.specs.Placed.{Placed};
-ghost use Rattle.monthly.specs.Monthly.{note, head_text, sums_text, extremes_text, report_text, stop_text, unread_text};
+ghost use Rattle.monthly.specs.Monthly.{head_text, sums_text, extremes_text, report_text, stop_text, unread_text};
 
 use lines::{put_counts, put_exact, put_extreme, put_note, put_refusals, put_total};
 use month::{Extreme, Report};
@@ -65,25 +63,13 @@ pub fn put_report(out: &mut [u8; ROOM], report: Report, apart: u64) -> usize
     put_lines(out, report, apart)
 }
 
-// Line and column of a text.
-fn put_halt(out: &mut [u8], line: u32, column: usize) -> usize
-    requires { 62 ≤ length out.old }
-    ensures { Placed out.old out.new 0 result 62 ((note (ascii "file 18 line ") line ++ space) ++ (note (ascii "column ") column ++ space)) }
-{
-    let a = put_note(out, 0, b"file 18 line ", line as u64, 32);
-    put_note(out, a, b"column ", column as u64, 32)
-}
-
-// The start of the line of a file that is not taken: `file 7 `, `file 10 row I `, and of a text `file 11 ` or `file 18 line L column C `. Its name and the line's end follow.
-pub fn put_stop(out: &mut [u8; ROOM], refusal: u8, place: u32, column: usize) -> usize
-    ensures put { Put out.old out.new 0 result (stop_text refusal place column) }
+// The start of the line of a file that is not taken: `file 7 `, or `file 10 row I `. Its name and the line's end follow.
+pub fn put_stop(out: &mut [u8; ROOM], refusal: u8, row: u32) -> usize
+    ensures put { Put out.old out.new 0 result (stop_text refusal row) }
     ensures upper_bound { result ≤ length out.new }
 {
     if refusal == 10 {
-        return put_note(out, 0, b"file 10 row ", place as u64, 32);
-    }
-    if refusal == 18 {
-        return put_halt(out, place, column);
+        return put_note(out, 0, b"file 10 row ", row as u64, 32);
     }
     put_note(out, 0, b"file ", refusal as u64, 32)
 }

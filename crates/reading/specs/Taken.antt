@@ -1,12 +1,16 @@
 -- Hex text read into a sheet file (02, [10]): what is said, and what is then in the file. Definitions only.
-use Rattle.std.specs.Prelude.{◌≡◌, ℕ, true, false, List, ◌++◌, eqb, ℤ}
+use Rattle.std.specs.Prelude.{◌≡◌, ℕ, true, false, ◌&&◌, List, ◌++◌, ltb, leb, eqb, ℤ, length, replicate}
 use Rattle.laws.specs.Ascii.{ascii}
 use Rattle.laws.specs.Ladder.{when◌gives◌else◌}
+use Rattle.line.specs.declared.Number.{Number}
+use Rattle.line.specs.declared.Number.TheVariants.{Value, Not}
 use Rattle.line.specs.Line.{line_ends}
 use Rattle.text.specs.Text.{decimal, end}
+use Rattle.ledger.specs.Sheet.{most_rows, size_for}
 use Rattle.ledger.specs.Calls.{rows_in}
+use Rattle.hexline.specs.Parts.{part_at}
 use Rattle.hextext.specs.declared.Halt.{Halt}
-use Rattle.hextext.specs.Whole.{most_text, taken_of}
+use Rattle.hextext.specs.HexText.{halt_at, Came, count_of, text_into}
 use Rattle.files.specs.Calls.{Called, counts, words}
 use Rattle.files.specs.Save.{Save}
 use Rattle.files.specs.Notes.{cannot_write, usage_line}
@@ -17,12 +21,26 @@ use Rattle.loading.specs.Notes.{number_line}
 
 -- ---- a text
 
--- the sheet that it is read into, and where it halts; a row of the function that goes out is 22
-abbrev pub sheet_of : List ℕ → List ℕ
-sheet_of t = (taken_of false t).sheet
+-- the buffer: one byte more than any text that reads has, four digits of a count, 1,024 lines of 283 bytes, and their line ends
+abbrev pub most_text : ℕ
+most_text = 290822
 
-abbrev pub end_of : List ℕ → Halt
-end_of t = (taken_of false t).end
+-- the bytes of the sheet that the count asks for; none where there is no such sheet
+unfoldable pub lent_for : Number → ℕ
+lent_for Not = 0
+lent_for (Value r) =
+    when ltb most_rows r gives 0 else
+    size_for r
+
+-- the text, read into zeros
+unfoldable pub taken_of : List ℕ → Came
+taken_of t = text_into t (replicate (lent_for (count_of (part_at 10 t 0))) 0)
+
+-- where it halts; a text that fills the buffer is not taken, whatever it says
+unfoldable pub end_of : List ℕ → Halt
+end_of t =
+    when eqb (taken_of t).end.refusal 0 && leb most_text (length t) gives halt_at 18 1 1 else
+    (taken_of t).end
 
 -- ---- what is said
 
@@ -38,13 +56,13 @@ halt_line h =
 pub record Readable (bytes : List ℕ) : Type 0 where
   pub text : List ℕ
   pub taken : (end_of text).refusal ≡ 0
-  pub is : bytes ≡ sheet_of text
+  pub is : bytes ≡ (taken_of text).sheet
 
 -- of the text t: it is refused, and no file is written; or the file is put in place with the sheet, or can't be
 pub data Settled (t name text : List ℕ) : Type 0 where
   refused : ((end_of t).refusal ≡ 0 → ⊥) → text ≡ halt_line (end_of t) → Settled t name text
-  unwritten : (end_of t).refusal ≡ 0 → Save name (sheet_of t) false → text ≡ cannot_write name → Settled t name text
-  written : (end_of t).refusal ≡ 0 → Save name (sheet_of t) true → text ≡ number_line (ascii "rows ") (rows_in (sheet_of t)) → Settled t name text
+  unwritten : (end_of t).refusal ≡ 0 → Save name (taken_of t).sheet false → text ≡ cannot_write name → Settled t name text
+  written : (end_of t).refusal ≡ 0 → Save name (taken_of t).sheet true → text ≡ number_line (ascii "rows ") (rows_in (taken_of t).sheet) → Settled t name text
 
 -- a text was settled, and what is said of it was sent
 pub record Answered (t name : List ℕ) (out last : Output) : Type 0 where

@@ -2,17 +2,52 @@
 mod ends;
 mod saying;
 
-ghost use Rattle.std.specs.Prelude.{◌≡◌};
+ghost use Rattle.std.specs.Prelude.{◌≡◌, replicate, ◌≤◌};
+ghost use Rattle.page.specs.Page.{largest};
 ghost use Rattle.files.specs.Save.{Save};
-ghost use Rattle.hextext.specs.Whole.{zeros_for};
-ghost use Rattle.reading.specs.Taken.{Readable, Answered, Done, Ran};
+ghost use Rattle.hexline.specs.Parts.{part_at};
+ghost use Rattle.hextext.specs.HexText.{count_of};
+ghost use Rattle.reading.specs.Taken.{lent_for, taken_of, end_of, Readable, Answered, Done, Ran};
 
 use ends::line_ends;
 use files::{Output, WORD};
-use hextext::MOST_TEXT;
+use hextext::Halt;
+use line::Number;
 use loading::put_number;
 use page::LARGEST;
 use saying::put_halt;
+
+// One byte more than any text that reads has.
+pub const MOST_TEXT: usize = 290822;
+
+// How many bytes the text's sheet has; none where there is no such sheet.
+fn lent(text: &[u8]) -> usize
+    ensures { (result ≡ lent_for (count_of (part_at 10 text.now 0))) × (result ≤ largest) }
+{
+    let Number::Value(n) = hextext::rows(text) else {
+        return 0;
+    };
+    if n > 1024 {
+        return 0;
+    }
+    ledger::size_for(n as u32)
+}
+
+// The text into the lent zeros: where it halted.
+fn take(sheet: &mut [u8], text: &[u8]) -> Halt
+    requires { sheet.old ≡ replicate (lent_for (count_of (part_at 10 text.now 0))) 0 }
+    ensures { (result ≡ end_of text.now) × (sheet.new ≡ (taken_of text.now).sheet) }
+{
+    let h = hextext::read_text(sheet, text);
+    if (h.refusal == 0) & (MOST_TEXT <= text.len()) {
+        return Halt {
+            refusal: 18,
+            line: 1,
+            column: 1,
+        };
+    }
+    h
+}
 
 // The one call that writes a file: with a sheet that a whole text was taken into. So where a text is refused no file is written.
 fn save_sheet(name: &[u8], sheet: &[u8]) -> bool
@@ -24,10 +59,10 @@ fn save_sheet(name: &[u8], sheet: &[u8]) -> bool
 
 // The text taken and put into the file of this name; or why not.
 fn settle(program: &[u8], out: Output, sheet: &mut [u8], text: &[u8], name: &[u8]) -> Output
-    requires { sheet.old ≡ zeros_for text.now }
+    requires { sheet.old ≡ replicate (lent_for (count_of (part_at 10 text.now 0))) 0 }
     ensures { Answered text.now name.now out result }
 {
-    let h = hextext::take(sheet, text, false);
+    let h = take(sheet, text);
     if h.refusal != 0 {
         files::tell(
             program,
@@ -50,7 +85,7 @@ fn take_text(program: &[u8], out: Output, text: &[u8], name: &[u8]) -> Output
     ensures { Answered text.now name.now out result }
 {
     let mut sheet = [0u8; LARGEST];
-    let n = hextext::lent(text);
+    let n = lent(text);
     settle(program, out, &mut sheet[0..n], text, name)
 }
 

@@ -7,57 +7,39 @@ use mathlib.Core.Bool.{Bool, true, false, cond}
 use mathlib.Core.List.{List, [], ◌∷◌, ◌++◌}
 use lib.ListN.{length, take, get_or, set, replicate, length-set, length-replicate}
 use lib.Seq.{take-suc, take-suc-set}
-use borrow.Author.Tests.{eq-eqb, ne_eqb}
 use Rattle.month.specs.declared.parts.Report.{Report}
-use Rattle.month.specs.Month.{start_of, added_of}
+use Rattle.month.specs.declared.parts.Stop.{Stop}
+use Rattle.month.specs.Month.{stop_of, start_of, added_of}
 use Rattle.month.specs.Files.{most_files}
 use Rattle.monthly.specs.Monthly.{report_text}
 use Rattle.files.specs.Calls.{Called, words}
-use Rattle.loading.specs.Load.{LoadIn}
-use Rattle.hextext.specs.declared.Halt.{Halt}
-use Rattle.hextext.specs.HexText.{came}
-use Rattle.hextext.specs.Whole.{most_text, zeros_for, take_of, taken_of}
+use Rattle.loading.specs.Load.{Load}
 use Rattle.files.specs.declared.sending.Output.{Output}
 use Rattle.files.specs.Output.{Wrote, none}
 use Rattle.files.specs.laws.Outputs.{wrote_both}
 use Rattle.reporting.specs.declared.parts.Fate.{Fate}
 use Rattle.reporting.specs.laws.Month.{apart_more}
-use Rattle.reporting.specs.Reporting.{is_text, came_of, fate, sheet_fate, came_fate, fate_of, taken_in, came_report, after_file, apart_of, Met, Took, Line, Lines, Told, ToldAll, Reported}
-
--- ---- a text, or a sheet
-
--- what came of the lent zeros
-module _ (t s u : List ℕ) (h : Halt) (z : s ≡ zeros_for t) (e : came u h ≡ take_of true t s) (r : Report) (n : ℕ) where
-  all : came u h ≡ taken_of true t
-  all = e ∙ ap (take_of true t) z
-
-  pub text_halts : (h.refusal ≡ 0 → ⊥) → (fate true h.refusal h.line h.column ≡ came_fate (taken_of true t)) × (r ≡ came_report r n (taken_of true t))
-  unfolding came_fate came_report
-  text_halts bad = rw (← all, ne_eqb h.refusal 0 bad) (refl, refl)
-
-  pub text-taken : h.refusal ≡ 0 → (f : Fate) (new : Report) → f ≡ sheet_fate u → new ≡ added_of r n u → (f ≡ came_fate (taken_of true t)) × (new ≡ came_report r n (taken_of true t))
-  unfolding came_fate came_report
-  text-taken good f new is a = rw (← all, eq-eqb h.refusal 0 good) (is, a)
-
-module _ (r : Report) (n : ℕ) (bytes : List ℕ) where
-  pub is_text_lem : is_text bytes ≡ true → (f : Fate) (new : Report) → f ≡ came_fate (taken_of true bytes) → new ≡ came_report r n (taken_of true bytes) → (f ≡ came_fate (came_of bytes)) × (new ≡ came_report r n (came_of bytes))
-  unfolding came_of
-  is_text_lem e f new is a = rw e (is, a)
-
-  pub no_text : is_text bytes ≡ false → (f : Fate) (new : Report) → f ≡ sheet_fate bytes → new ≡ added_of r n bytes → (f ≡ came_fate (came_of bytes)) × (new ≡ came_report r n (came_of bytes))
-  unfolding came_of came_fate came_report
-  no_text e f new is a = rw e (is, a)
+use Rattle.reporting.specs.Reporting.{fate_of, taken_in, after_file, apart_of, Met, Took, Line, Lines, Told, ToldAll, Reported}
 
 -- ---- one file
 
-module _ (n : ℕ) (r : Report) (name bytes : List ℕ) (named : Called (words n name)) (read : Bool) (l : LoadIn most_text name bytes read) where
-  pub met_unread : read ≡ false → Met n r r (fate false 0 0 0)
+module _ (n : ℕ) (r : Report) (name bytes : List ℕ) (named : Called (words n name)) (read : Bool) (l : Load name bytes read) where
+  pub met_unread : read ≡ false → Met n r r (record { read = false; refusal = 0; row = 0 })
   unfolding fate_of after_file
-  met_unread e = record { name = name; bytes = bytes; read = false; named = named; loaded = subst (LoadIn most_text name bytes) e l; fate = refl; report = refl }
+  met_unread e = record { name = name; bytes = bytes; read = false; named = named; loaded = subst (Load name bytes) e l; fate = refl; report = refl }
 
-  pub met_read : (new : Report) (f : Fate) → read ≡ true → f ≡ came_fate (came_of bytes) → new ≡ came_report r n (came_of bytes) → Met n r new f
+  pub met_read : (new : Report) (stop : Stop) → read ≡ true → stop ≡ stop_of bytes → new ≡ added_of r n bytes
+      → Met n r new (record { read = true; refusal = stop.refusal; row = stop.row })
   unfolding fate_of after_file
-  met_read new f e s a = record { name = name; bytes = bytes; read = true; named = named; loaded = subst (LoadIn most_text name bytes) e l; fate = s; report = a }
+  met_read new stop e s a = record {
+    name = name;
+    bytes = bytes;
+    read = true;
+    named = named;
+    loaded = subst (Load name bytes) e l;
+    fate = ap (λ (z : Stop). record { read = true; refusal = z.refusal; row = z.row }) s;
+    report = a;
+  }
 
 -- ---- files so far
 

@@ -1,65 +1,33 @@
 -- The month's report of the files that are named (02, [2]): what comes of each, the report, and what is said. Definitions only.
-use Rattle.std.specs.Prelude.{◌≡◌, ℕ, ◌+◌, ◌≤◌, ◌<◌, Bool, true, false, cond, not, ◌&&◌, List, [], ◌∷◌, ◌++◌, ltb, eqb, ℤ, length, get_or}
+use Rattle.std.specs.Prelude.{◌≡◌, ℕ, ◌+◌, ◌≤◌, ◌<◌, Bool, true, false, cond, ◌&&◌, List, [], ◌∷◌, ◌++◌, eqb, ℤ}
 use Rattle.laws.specs.Ascii.{ascii}
 use Rattle.laws.specs.Ladder.{when◌gives◌else◌}
 use Rattle.text.specs.Text.{end}
-use Rattle.line.specs.Line.{digit_of}
 use Rattle.month.specs.declared.parts.Report.{Report}
 use Rattle.month.specs.Month.{stop_of, start_of, added_of}
 use Rattle.month.specs.Files.{most_files}
 use Rattle.monthly.specs.Monthly.{report_text, stop_text, unread_text}
 use Rattle.files.specs.Calls.{Called, counts, words}
-use Rattle.loading.specs.Load.{LoadIn}
-use Rattle.hextext.specs.HexText.{fine, Came, came}
-use Rattle.hextext.specs.Whole.{most_text, taken_of}
+use Rattle.loading.specs.Load.{Load}
 use Rattle.files.specs.Notes.{usage_line}
 use Rattle.files.specs.declared.sending.Output.{Output}
 use Rattle.files.specs.Output.{output_of, Wrote}
 use Rattle.reporting.specs.declared.parts.Fate.{Fate}
 
--- ---- what a file's bytes are
-
--- hex text: a digit stands first, and a sheet's first byte is none
-unfoldable pub is_text : List ℕ → Bool
-is_text bytes = ltb 0 (length bytes) && ltb (digit_of (get_or bytes 0 0)) 10
-
--- the sheet that a text reads into, rows of function 1 too ([13]), and where it halts; other bytes are taken as they are
-unfoldable pub came_of : List ℕ → Came
-came_of bytes = when is_text bytes gives taken_of true bytes else came bytes fine
-
 -- ---- what comes of a file
 
-abbrev pub fate : Bool → ℕ → ℕ → ℕ → Fate
-fate read refusal place column = record { read = read; refusal = refusal; place = place; column = column }
-
--- a sheet: 7, 10 and its row, or 0: it is taken
-unfoldable pub sheet_fate : List ℕ → Fate
-sheet_fate s = fate true (stop_of s).refusal (stop_of s).row 0
-
--- a text that halts: its refusal, line and column; else the sheet's
-unfoldable pub came_fate : Came → Fate
-came_fate c =
-    when not (eqb c.end.refusal 0) gives fate true c.end.refusal c.end.line c.end.column else
-    sheet_fate c.sheet
-
--- it can't be read; or it was, and this stops it
+-- it can't be read; or it was, and this stops it: 7, 10 and its row, or 0: it is taken
 unfoldable pub fate_of : Bool → List ℕ → Fate
 fate_of read bytes =
-    when read gives came_fate (came_of bytes) else
-    fate false 0 0 0
+    when read gives record { read = true; refusal = (stop_of bytes).refusal; row = (stop_of bytes).row } else
+    record { read = false; refusal = 0; row = 0 }
 
 unfoldable pub taken_in : Fate → Bool
 taken_in f = f.read && eqb f.refusal 0
 
--- the report after sheet n: a text that halts adds nothing, and neither does a sheet that is not taken (month's added_of)
-unfoldable pub came_report : Report → ℕ → Came → Report
-came_report r n c =
-    when not (eqb c.end.refusal 0) gives r else
-    added_of r n c.sheet
-
--- nor does a file that can't be read
+-- the report after file n: one that can't be read adds nothing, and neither does one that is not taken (month's added_of)
 unfoldable pub after_file : Report → ℕ → Bool → List ℕ → Report
-after_file r n read bytes = when read gives came_report r n (came_of bytes) else r
+after_file r n read bytes = when read gives added_of r n bytes else r
 
 -- how many are not taken
 unfoldable pub apart_of : List Fate → ℕ
@@ -72,7 +40,7 @@ pub record Met (n : ℕ) (r new : Report) (f : Fate) : Type 0 where
   pub bytes : List ℕ
   pub read : Bool
   pub named : Called (words n name)
-  pub loaded : LoadIn most_text name bytes read
+  pub loaded : Load name bytes read
   pub fate : f ≡ fate_of read bytes
   pub report : new ≡ after_file r n read bytes
 
@@ -86,7 +54,7 @@ pub data Took : ℕ → Report → List Fate → Type 0 where
 -- its refusal, or that it can't be read
 unfoldable pub head_of : Fate → List ℕ
 head_of f =
-    when f.read gives stop_text f.refusal f.place f.column else
+    when f.read gives stop_text f.refusal f.row else
     unread_text
 
 -- then its name, as it was given

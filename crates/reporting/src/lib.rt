@@ -1,5 +1,5 @@
-// The month's report of the files that are named, sheets or hex text: all that legmonth does (02, [2] and [10]). Files are taken one after the other, and no more than one sheet is
-// in memory, with the text that it was read from; what stays of a file is its share of the report and what came of it.
+// The month's report of the files that are named: all that legmonth does (02, [2]). Files are taken one after the other, and no more than one sheet is in memory;
+// what stays of a file is its share of the report and what came of it.
 mod parts;
 mod saying;
 mod taking;

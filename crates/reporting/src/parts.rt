@@ -4,13 +4,12 @@ use month::Report;
 // The most files of a month.
 pub const MOST_FILES: usize = 400;
 
-// What came of a file: whether it was read, and then what stops it: 7; 10 and its row; of a text 11, or 18 with line and column; or 0: it is taken.
+// What came of a file: whether it was read, and then what stops it: 7, 10 and its row, or 0: it is taken.
 #[derive(Drop)]
 pub struct Fate {
     pub read: bool,
     pub refusal: u8,
-    pub place: u32,
-    pub column: usize,
+    pub row: u32,
 }
 
 // The report after one file, and what came of it.

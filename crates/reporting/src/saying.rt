@@ -27,7 +27,7 @@ fn put_head(out: &mut [u8; ROOM], fate: Fate) -> usize
     ensures upper_bound { result ≤ length out.new }
 {
     if fate.read {
-        return monthly::put_stop(out, fate.refusal, fate.place, fate.column);
+        return monthly::put_stop(out, fate.refusal, fate.row);
     }
     monthly::put_unread(out)
 }

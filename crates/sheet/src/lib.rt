@@ -24,5 +24,5 @@ pub struct Entry {
 pub fn edit(sheet: &mut [u8], row: u32, entry: Entry) -> u8
     ensures { (result ≡ edit_refusal sheet.old row entry.function) × (sheet.new ≡ edit_of sheet.old row entry) }
 {
-    ledger::place(sheet, row, words(entry), false)
+    ledger::place(sheet, row, words(entry))
 }

@@ -1,6 +1,6 @@
 // What each kind of list is worked out by. A line holds the arguments' patterns, then the answer's.
 // The kinds by number: 1 magnitude, 2 trunc, 3 floor, 4 round, 5 root, 6 fused, 7 the complete integrals, 8 ellippi, 9 ellipeinc, 10 ellipf,
-// 11 sine, 12 cosine, 13 logarithm, 14 remainder, 15 RF, 16 RC, 17 RD, 18 RJ, 19 rounds, 20 arc tangent. No other is a kind.
+// 11 sine, 12 cosine, 13 logarithm, 14 remainder, 15 RF, 16 RC, 17 RD, 18 RJ, 19 rounds. No other is a kind.
 ghost use Rattle.std.specs.Prelude.{◌<◌, ◌≤◌};
 
 use crate::text::{float, shaped, word};
@@ -148,16 +148,13 @@ fn agrees_near(kind: u8, s: &[u8]) -> Shown {
     )
 }
 
-// Sine, cosine, arc tangent and logarithm.
+// Sine, cosine and logarithm.
 fn computed(kind: u8, x: f64) -> Answer {
     if kind == 11 {
         return angle::sine(x);
     }
     if kind == 12 {
         return cosine::cosine(x);
-    }
-    if kind == 20 {
-        return arctangent::arctangent(x);
     }
     logarithm::logarithm(x)
 }
@@ -228,7 +225,7 @@ pub(crate) fn agrees(kind: u8, s: &[u8]) -> Shown {
     if kind < 11 {
         return agrees_near(kind, s);
     }
-    if (kind < 14) | (kind == 20) {
+    if kind < 14 {
         return agrees_bounded(kind, s);
     }
     if kind < 19 {

@@ -1,11 +1,10 @@
--- `sine_from` meets its contract: the product is exact, and rounded once.
+-- `sine_from` meets its contract: the product is exact, and rounded once (`Reaching`).
 use mathlib.Core.Path.{ap₂, ◌∙◌}
 use mathlib.Core.Bool.{Bool}
 use Prim.Native.Nat.{ℕ, ◌+◌, ◌*◌, ◌^◌}
 use borrow.Author.Rules.{rules}
 use lib.Ieee.{binary64, round}
-use lib.Dec.{lit≤}
-use Rattle.bits.specs.laws.Units.{product_rounded}
+use Rattle.angle.proofs.Reaching.{product_rounded}
 use Rattle.angle.proofs.sine_from.Statement.{statement}
 use Rattle.angle.proofs.sine_from.Tie as tie
 
@@ -16,7 +15,7 @@ returns c =
     let d = v.before in
     let a = d.before.args.a in
     c.rounded.ensures
-    ∙ product_rounded f.differ.result 60 a.digits a.exponent d.distance.result (v.product.result.high * 2 ^ 64 + v.product.result.low) (lit≤ tt) v.product.ensures.whole
+    ∙ product_rounded f.differ.result a.digits a.exponent d.distance.result (v.product.result.high * 2 ^ 64 + v.product.result.low) v.product.ensures.whole
     ∙ ap₂ (λ (s : Bool) (g : ℕ). round binary64 s (a.digits * 2 ^ a.exponent * g) (2 ^ 1074 * 2 ^ 60)) f.differ.ensures d.distance.ensures
 
 pub sine-from-spec : {M : Type 1} → statement M

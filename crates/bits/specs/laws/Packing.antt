@@ -57,6 +57,8 @@ bits_of f (fin t m e) s a h =
     ap (λ (x : ℕ). cond t (top f) 0 + (size x - prec f) * hid f + x / 2 ^ (size x - prec f)) n
     ∙ ap (λ (b : Bool). cond b (top f) 0 + (size a - prec f) * hid f + a / 2 ^ (size a - prec f)) h.0
     ∙ add_assoc (cond s (top f) 0) ((size a - prec f) * hid f) (a / 2 ^ (size a - prec f))
+bits_of f lib.Ieee.nan s a h = elim h [ ]
+bits_of f (inf _) s a h = elim h [ ]
 
 -- ---- `units`, below the overflow and from it on
 units_under : (f : Format) (s : Bool) (q k : ℕ) → q * 2 ^ k < overflow f → units f s q k ≡ odd (suc (prec f)) s q k (low f)

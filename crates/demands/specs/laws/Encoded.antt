@@ -135,7 +135,7 @@ module _ (ws : List Row) (r : Rows ws) (few : length ws ≤ 1024) where
   answers e = rw (takes_edits, rows_in_lem) (go (leb (length ws) e.row) refl)
     where
       go : (b : Bool) → leb (length ws) e.row ≡ b
-          → ◌≡◌ {A = ℕ} (cond b 8 (function_rungs false e.entry.function (cond (damaged (encode ws) e.row) 10 0))) (cond b 8 (function_rungs false e.entry.function 0))
+          → ◌≡◌ {A = ℕ} (cond b 8 (function_rungs e.entry.function (cond (damaged (encode ws) e.row) 10 0))) (cond b 8 (function_rungs e.entry.function 0))
       go true h = refl
       go false h = rw (whole e.row (leb-false (length ws) e.row h))
 

@@ -1,9 +1,9 @@
--- No line, a line that is not taken, or its row put in place.
+-- No line, a line that is not taken, or an edit.
 use mathlib.Core.Path.{refl, ap, ap₂, ◌∙◌}
 use Prim.Native.Nat.{ℕ, ◌+◌}
 use borrow.Author.Tests.{le-leb, lt-leb, eq-eqb, ne_eqb}
-use Rattle.ledger.specs.Calls.{place_refusal, place_of}
-use Rattle.sheet.specs.Edit.{row_of}
+use Rattle.sheet.specs.declared.Entry.{Entry}
+use Rattle.sheet.specs.Edit.{edit_refusal, edit_of}
 use Rattle.hextext.specs.HexText.{halt_at, entry_of, line_halt, came, line_into}
 use borrow.Author.Rules.{rules}
 use Rattle.hextext.proofs.read_line.Statement.{statement}
@@ -35,18 +35,14 @@ unfolding line_into
 returns-2 c =
     let s = c.before.before.before.before.before.before.before.args.sheet.now in
     let i = c.before.before.before.before.before.before.before.args.i in
-    let old = c.before.before.before.before.before.before.before.args.old in
-    let h = c.before.before.line-halt.ensures ∙ ap (line_halt old (i + 2)) c.before.before.before.part.ensures in
+    let h = c.before.before.line-halt.ensures ∙ ap (line_halt (i + 2)) c.before.before.before.part.ensures in
     rw (lt-leb _ _ c.before.before.before.before.if1.false) (rw (← h, ne_eqb _ 0 c.if2.true) refl)
 
 entry-requires : tie.Need-entry-requires
 entry-requires c κs = search rules
 
-words-requires : tie.Need-words-requires
-words-requires c κs = search rules
-
-place-requires : tie.Need-place-requires
-place-requires c κs = search rules
+edit-requires : tie.Need-edit-requires
+edit-requires c κs = search rules
 
 add-halted-2 : tie.Need-overflow-add-halted-2
 add-halted-2 c = search rules
@@ -60,14 +56,14 @@ same_length c = search rules
 returns-3 : tie.Need-returns-3
 unfolding line_into
 returns-3 c =
-    let a = c.before.before.before.before.before.before.before.before.before.before.before.before.before.before.args in
-    let line = c.before.before.before.before.before.before.before.before.before.before.part.ensures in
-    let h = c.before.before.before.before.before.before.before.before.before.line-halt.ensures ∙ ap (line_halt a.old (a.i + 2)) line in
-    let w = c.before.before.before.before.words.ensures ∙ ap row_of (c.before.before.before.before.before.entry.ensures ∙ ap entry_of line) in
-    let q = c.before.before.before.place.ensures in
-    rw (lt-leb _ _ c.before.before.before.before.before.before.before.before.before.before.before.if1.false)
-    (rw (← h, eq-eqb _ 0 c.before.before.before.before.before.before.before.if2.false)
-    (ap₂ came (q.1 ∙ ap (place_of a.old a.sheet.now a.i) w) (c.halted2.ensures ∙ ap (λ (k : ℕ). halt_at k (a.i + 2) 0) (q.0 ∙ ap (place_refusal a.old a.sheet.now a.i) w))))
+    let a = c.before.before.before.before.before.before.before.before.before.before.before.before.before.args in
+    let line = c.before.before.before.before.before.before.before.before.before.part.ensures in
+    let h = c.before.before.before.before.before.before.before.before.line-halt.ensures ∙ ap (line_halt (a.i + 2)) line in
+    let e = c.before.before.before.before.entry.ensures ∙ ap entry_of line in
+    let q = c.before.before.before.edit.ensures in
+    rw (lt-leb _ _ c.before.before.before.before.before.before.before.before.before.before.if1.false)
+    (rw (← h, eq-eqb _ 0 c.before.before.before.before.before.before.if2.false)
+    (ap₂ came (q.1 ∙ ap (edit_of a.sheet.now a.i) e) (c.halted2.ensures ∙ ap (λ (k : ℕ). halt_at k (a.i + 2) 0) (q.0 ∙ ap (λ (x : Entry). edit_refusal a.sheet.now a.i x.function) e))))
 
 pub read-line-spec : {M : Type 1} → statement M
 read-line-spec =
@@ -81,8 +77,7 @@ read-line-spec =
     line-halt-requires
     returns-2
     entry-requires
-    words-requires
-    place-requires
+    edit-requires
     add-halted-2
     halted-requires-2
     same_length

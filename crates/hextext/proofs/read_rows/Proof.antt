@@ -11,10 +11,10 @@ use Rattle.hextext.proofs.read_rows.Statement.{statement}
 use Rattle.hextext.proofs.read_rows.Tie as tie
 
 abbrev invariant-loop : tie.invariant-loop
-invariant-loop sheet₀ text rows from old at₀ i₀ sheet at i = (rows_into old text (rows - i) sheet i at ≡ rows_into old text rows sheet₀ 0 at₀) × (i ≤ rows) × (length sheet ≡ length sheet₀)
+invariant-loop sheet₀ text rows from at₀ i₀ sheet at i = (rows_into text (rows - i) sheet i at ≡ rows_into text rows sheet₀ 0 at₀) × (i ≤ rows) × (length sheet ≡ length sheet₀)
 
 abbrev decreases-loop : tie.decreases-loop
-decreases-loop sheet₀ text rows from old at₀ i₀ sheet at i = rows - i
+decreases-loop sheet₀ text rows from at₀ i₀ sheet at i = rows - i
 
 loop-holds : tie.Need-loop-init invariant-loop decreases-loop
 loop-holds c = (rw sub-zero refl, omega arith, refl)
@@ -30,7 +30,7 @@ returns c =
     let l = c.before.before.before.before.before.before.before.loop in
     let a = c.before.before.before.before.before.before.before.before.before.before.args in
     let call = c.before.before.before.before.read-line in
-    halts a.old a.text.now l.sheet a.rows l.i l.at c.before.before.before.before.before.before.loop-test.true _ call.result call.ensures c.if1.true ∙ l.invariant.0
+    halts a.text.now l.sheet a.rows l.i l.at c.before.before.before.before.before.before.loop-test.true _ call.result call.ensures c.if1.true ∙ l.invariant.0
 
 next-requires : tie.Need-next-requires invariant-loop decreases-loop
 next-requires c κs = search rules
@@ -46,7 +46,7 @@ loop-again c =
     let l = c.before.before.before.before.before.before.before.before.loop in
     let a = c.before.before.before.before.before.before.before.before.before.before.before.args in
     let call = c.before.before.before.before.before.read-line in
-    (rw c.next.ensures (goes_on_lem a.old a.text.now l.sheet a.rows l.i l.at c.before.before.before.before.before.before.before.loop-test.true _ call.result call.ensures c.before.if1.false ∙ l.invariant.0), omega (arith, c.before.before.before.before.before.before.before.loop-test.true), call.auto.0 ∙ l.invariant.2)
+    (rw c.next.ensures (goes_on_lem a.text.now l.sheet a.rows l.i l.at c.before.before.before.before.before.before.before.loop-test.true _ call.result call.ensures c.before.if1.false ∙ l.invariant.0), omega (arith, c.before.before.before.before.before.before.before.loop-test.true), call.auto.0 ∙ l.invariant.2)
 
 add-halted : tie.Need-overflow-add-halted invariant-loop decreases-loop
 add-halted c = let rows = c.before.before.before.before.before.requires in omega (arith, rows, c.before.before.loop.invariant.1)
@@ -61,7 +61,7 @@ returns-2 : tie.Need-returns-2 invariant-loop decreases-loop
 returns-2 c =
     let l = c.before.before.before.loop in
     let a = c.before.before.before.before.before.before.args in
-    ap (came l.sheet) c.halted.ensures ∙ too_many a.old a.text.now l.sheet a.rows l.i l.at c.before.before.loop-test.false c.before.if2.true ∙ l.invariant.0
+    ap (came l.sheet) c.halted.ensures ∙ too_many a.text.now l.sheet a.rows l.i l.at c.before.before.loop-test.false c.before.if2.true ∙ l.invariant.0
 
 halted-requires-2 : tie.Need-halted-requires-2 invariant-loop decreases-loop
 halted-requires-2 c κs = search rules
@@ -73,7 +73,7 @@ returns-3 : tie.Need-returns-3 invariant-loop decreases-loop
 returns-3 c =
     let l = c.before.before.before.loop in
     let a = c.before.before.before.before.before.before.args in
-    ap (came l.sheet) c.halted2.ensures ∙ at-end a.old a.text.now l.sheet a.rows l.i l.at c.before.before.loop-test.false c.before.if2.false ∙ l.invariant.0
+    ap (came l.sheet) c.halted2.ensures ∙ at-end a.text.now l.sheet a.rows l.i l.at c.before.before.loop-test.false c.before.if2.false ∙ l.invariant.0
 
 pub read-rows-spec : {M : Type 1} → statement M
 read-rows-spec =

@@ -26,7 +26,7 @@ returns : tie.Need-returns
 unfolding text_into
 returns c =
     let a = c.before.before.before.before.before.before.args in
-    ap (came a.sheet.now) c.halted.ensures ∙ no_count a.old a.text.now a.sheet.now _ (sym c.before.enum_told.given.1 ∙ c.before.before.before.rows.ensures)
+    ap (came a.sheet.now) c.halted.ensures ∙ no_count a.text.now a.sheet.now _ (sym c.before.enum_told.given.1 ∙ c.before.before.before.rows.ensures)
 
 cast-make-blank : tie.Need-overflow-cast-make-blank
 cast-make-blank c = let n = c.before.before.n.given in omega (arith, cut_most _ n.0.0 (sym n.1 ∙ c.before.before.before.before.rows.ensures))
@@ -47,8 +47,8 @@ returns-2 c =
     let n = c.before.before.before.before.before.before.before.n.given in
     let q = c.before.before.before.before.make-blank.ensures in
     let bad : blank_refusal a.sheet.now n.0.0 ≡ 0 → ⊥ = λ e. c.before.if1.true (q.0 ∙ e) in
-    ap₂ came (q.1 ∙ left_alone a.old a.text.now a.sheet.now n.0.0 bad) (c.halted2.ensures ∙ ap (λ (k : ℕ). halt_at k 0 0) q.0)
-    ∙ count_refused a.old a.text.now a.sheet.now _ n.0.0 (sym n.1 ∙ c.before.before.before.before.before.before.before.before.before.rows.ensures) bad
+    ap₂ came (q.1 ∙ left_alone a.text.now a.sheet.now n.0.0 bad) (c.halted2.ensures ∙ ap (λ (k : ℕ). halt_at k 0 0) q.0)
+    ∙ count_refused a.text.now a.sheet.now _ n.0.0 (sym n.1 ∙ c.before.before.before.before.before.before.before.before.before.rows.ensures) bad
 
 cast-read-rows : tie.Need-overflow-cast-read-rows
 cast-read-rows c = let n = c.before.before.before.before.before.before.before.n.given in omega (arith, cut_most _ n.0.0 (sym n.1 ∙ c.before.before.before.before.before.before.before.before.before.rows.ensures))
@@ -72,7 +72,7 @@ returns-3 c =
     let q = c.before.before.before.before.before.before.before.before.make-blank.ensures in
     let good = sym q.0 ∙ c.before.before.before.before.before.if1.false in
     rw (c.before.before.before.next.ensures, q.1) at c.before.before.read-rows.ensures
-    ∙ count-taken a.old a.text.now a.sheet.now _ n.0.0 (sym n.1 ∙ c.before.before.before.before.before.before.before.before.before.before.before.before.before.rows.ensures) good
+    ∙ count-taken a.text.now a.sheet.now _ n.0.0 (sym n.1 ∙ c.before.before.before.before.before.before.before.before.before.before.before.before.before.rows.ensures) good
 
 pub read-text-spec : {M : Type 1} → statement M
 read-text-spec =

@@ -6,9 +6,8 @@ use Rattle.std.specs.Float.Ieee.{round, of_bits}
 use Rattle.std.specs.Float.Ieee.Bits.{is_false}
 use Rattle.laws.specs.Arithmetic.{+0, 1·0}
 use Rattle.answer.specs.declared.Answer.TheVariants.{One, Refused}
-use Rattle.bounds.specs.Sums.{run_of}
 use Rattle.logarithm.specs.Series.{units_of, places}
-use Rattle.logarithm.specs.Logarithm.{part_of, logarithm_at, logarithm_of}
+use Rattle.logarithm.specs.Logarithm.{odds_of, part_of, logarithm_at, logarithm_of}
 
 pub logarithm_answers : (m : ℕ) (e : ℤ) → logarithm_of (fin false (suc m) e) ≡ One (logarithm_at (units_of (fin false (suc m) e)))
 unfolding logarithm_of
@@ -20,5 +19,5 @@ logarithm_answers m e =
     none false k = tt
 
 pub logarithm_one : logarithm_of 1·0 ≡ One +0
-unfolding logarithm_of logarithm_at units_of places part_of run_of round of_bits
+unfolding logarithm_of logarithm_at units_of places part_of odds_of round of_bits
 logarithm_one = refl

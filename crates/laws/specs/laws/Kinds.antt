@@ -20,6 +20,7 @@ not-nan (fin s m e) h = tt
 -- `v != v` holds of NaN alone
 level_own : (b : Bool) → T b → not (b && true) ≡ false
 level_own true h = refl
+level_own false h = elim h [ ]
 
 pub differs_is : (v : Float) → ne v v ≡ is_nan v
 unfolding ne eq is_nan

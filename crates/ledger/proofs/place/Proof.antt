@@ -22,14 +22,14 @@ returns : tie.Need-returns
 returns c =
     let a = c.before.before.before.before.args in
     let q = c.before.refusal-of-place in
-    (q.ensures, place_refused a.old a.sheet.now a.row (fields 8 a.words) q.result q.ensures c.if1.true)
+    (q.ensures, place_refused a.sheet.now a.row (fields 8 a.words) q.result q.ensures c.if1.true)
 
 store-requires : tie.Need-store-requires
 store-requires c κs =
     let a = c.before.before.before.before.before.args in
     let s = a.sheet.now in
     let w = fields 8 a.words in
-    let k = placed a.old s a.row w (sym c.before.before.refusal-of-place.ensures ∙ c.before.if1.false) in
+    let k = placed s a.row w (sym c.before.before.refusal-of-place.ensures ∙ c.before.if1.false) in
     (sheet_of_length with_times s k.0.sheet, sheet_of_few with_times s k.0.sheet, k.0.row, k.0.whole, class-lt w k.1)
 
 same-length-2 : tie.Need-same-length-2
@@ -40,7 +40,7 @@ returns-2 c =
     let a = c.before.before.before.before.before.before.before.before.args in
     let q = c.before.before.before.before.before.refusal-of-place in
     let z = c.before.before.before.before.if1.false in
-    (sym z ∙ q.ensures, place-stored a.old a.sheet.now a.row (fields 8 a.words) q.result q.ensures z c.before.before.store.new.0 c.before.before.store.ensures)
+    (sym z ∙ q.ensures, place-stored a.sheet.now a.row (fields 8 a.words) q.result q.ensures z c.before.before.store.new.0 c.before.before.store.ensures)
 
 pub place-spec : {M : Type 1} → statement M
 place-spec =

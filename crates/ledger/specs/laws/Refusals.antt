@@ -137,24 +137,21 @@ pub past_10 : (b : Bool) → ◌≡◌ {A = ℕ} (cond b 10 0) 0 → b ≡ false
 past_10 true h = absurd (omega arith)
 past_10 false h = refl
 
-pub past_function : (old : Bool) (f rest : ℕ) → function_rungs old f rest ≡ 0 → ((not old && eqb f withdrawn) ≡ false) × (f ≤ last) × (rest ≡ 0)
-past_function old f rest h = go (not old && eqb f withdrawn) (ltb last f) refl refl h
+pub past_function : (f rest : ℕ) → function_rungs f rest ≡ 0 → (eqb f withdrawn ≡ false) × (f ≤ last) × (rest ≡ 0)
+past_function f rest h = go (eqb f withdrawn) (ltb last f) refl refl h
   where
-    go : (p q : Bool) → (not old && eqb f withdrawn) ≡ p → ltb last f ≡ q → cond p 22 (cond q 9 rest) ≡ 0 → ((not old && eqb f withdrawn) ≡ false) × (f ≤ last) × (rest ≡ 0)
+    go : (p q : Bool) → eqb f withdrawn ≡ p → ltb last f ≡ q → cond p 22 (cond q 9 rest) ≡ 0 → (eqb f withdrawn ≡ false) × (f ≤ last) × (rest ≡ 0)
     go true q x y z = absurd (omega arith)
     go false true x y z = absurd (omega arith)
     go false false x y z = (x, ltb-false _ _ y, z)
 
-past_8 : (old : Bool) (r i f rest : ℕ) → cond (leb r i) 8 (function_rungs old f rest) ≡ 0 → (i < r) × (f ≤ last) × (rest ≡ 0)
-past_8 old r i f rest h = go (leb r i) refl h
-  where
-    go : (p : Bool) → leb r i ≡ p → cond p 8 (function_rungs old f rest) ≡ 0 → (i < r) × (f ≤ last) × (rest ≡ 0)
-    go true x z = absurd (omega arith)
-    go false x z = let t = past_function old f rest z in (leb-false _ _ x, t.1, t.2)
-
 pub past_rungs : (r i f rest : ℕ) → rungs r i f rest ≡ 0 → (i < r) × (f ≤ last) × (rest ≡ 0)
 unfolding rungs
-past_rungs r i f rest h = past_8 false r i f rest h
+past_rungs r i f rest h = go (leb r i) refl h
+  where
+    go : (p : Bool) → leb r i ≡ p → cond p 8 (function_rungs f rest) ≡ 0 → (i < r) × (f ≤ last) × (rest ≡ 0)
+    go true x z = absurd (omega arith)
+    go false x z = let t = past_function f rest z in (leb-false _ _ x, t.1, t.2)
 
 -- what comes after them matters only where they pass
 pub rungs-same : (r i f x y : ℕ) → (f ≤ last → x ≡ y) → rungs r i f x ≡ rungs r i f y
@@ -169,12 +166,11 @@ neither : (a b : Bool) → (not a || b) ≡ false → (a ≡ true) × (b ≡ fal
 neither true b h = (refl, h)
 neither false b h = absurd (false≢true (sym h))
 
-pub placed : (old : Bool) (s : List ℕ) (i : ℕ) (w : Row) → place_refusal old s i w ≡ 0 → Accepted s i (function_in w) × (sound w ≡ true)
+pub placed : (s : List ℕ) (i : ℕ) (w : Row) → place_refusal s i w ≡ 0 → Accepted s i (function_in w) × (sound w ≡ true)
 unfolding place_refusal
-placed old s i w h =
-    let rest : ℕ = cond (not (sound w) || damaged s i) 10 0 in
-    let a = past_7 (is_sheet_of with_times s) (cond (leb (rows_in s) i) 8 (function_rungs old (function_in w) rest)) h in
-    let b = past_8 old (rows_in s) i (function_in w) rest a.1 in
+placed s i w h =
+    let a = past_7 (is_sheet_of with_times s) (rungs (rows_in s) i (function_in w) (cond (not (sound w) || damaged s i) 10 0)) h in
+    let b = past_rungs (rows_in s) i (function_in w) (cond (not (sound w) || damaged s i) 10 0) a.1 in
     let c = neither (sound w) (damaged s i) (past_10 (not (sound w) || damaged s i) b.2) in
     (record { sheet = a.0; row = b.0; function = b.1; whole = c.1 }, c.0)
 

@@ -6,22 +6,21 @@ use Rattle.std.specs.Float.{nan, inf, fin}
 use Rattle.std.specs.Float.Ieee.{up, down}
 use Rattle.std.specs.Float.Ieee.Fits.{down_pos}
 use Rattle.bounds.specs.Close.{distance_of}
-use Rattle.bounds.specs.Sums.{run_of}
 use Rattle.logarithm.specs.Series.{units_of, places}
 use Rattle.logarithm.specs.laws.Places.{places-le}
-use Rattle.logarithm.specs.Logarithm.{part_of, third, logarithm_at, logarithm_of}
+use Rattle.logarithm.specs.Logarithm.{odds_of, part_of, third, logarithm_at, logarithm_of}
 use Rattle.answer.specs.Answer.{value_of}
 use Rattle.legendre.specs.Ellipe.{ln_of}
 use Rattle.laws.specs.laws.Bounds.{Small, Within, positive, small_round}
 
 -- ---- the sum of the steps stays small: each term is at most 1, and t is
-run-le : (w n k : ℕ) → w ≤ 2 ^ 64 → run_of w n 2 k ≤ k * 2 ^ 63
-unfolding run_of
-run-le w n zero h = omega arith
-run-le w n (suc k) h =
+odds-le : (w n k : ℕ) → w ≤ 2 ^ 64 → odds_of w n k ≤ k * 2 ^ 63
+unfolding odds_of
+odds-le w n zero h = omega arith
+odds-le w n (suc k) h =
     let x : 2 ^ 63 / n ≤ 2 ^ 63 = div-le_self (2 ^ 63) n in
-    let y : w * run_of w (n + 2) 2 k / 2 ^ 64 ≤ run_of w (n + 2) 2 k = div-le_of_le-mul (2 ^ 64) (mul-le-mul_right (run_of w (n + 2) 2 k) h) in
-    join (2 ^ 63) k (2 ^ 63 / n) (w * run_of w (n + 2) 2 k / 2 ^ 64) (run_of w (n + 2) 2 k) x y (run-le w (n + 2) k h)
+    let y : w * odds_of w (n + 2) k / 2 ^ 64 ≤ odds_of w (n + 2) k = div-le_of_le-mul (2 ^ 64) (mul-le-mul_right (odds_of w (n + 2) k) h) in
+    join (2 ^ 63) k (2 ^ 63 / n) (w * odds_of w (n + 2) k / 2 ^ 64) (odds_of w (n + 2) k) x y (odds-le w (n + 2) k h)
   where
     join : (P k x y o : ℕ) → x ≤ P → y ≤ o → o ≤ k * P → x + y ≤ suc k * P
     join P k x y o a b c = omega arith
@@ -30,7 +29,7 @@ part_le : (a b : ℕ) → a ≤ b → part_of a b ≤ 21 * 2 ^ 63
 unfolding part_of
 part_le a b h =
     let t : a * 2 ^ 64 / b ≤ 2 ^ 64 = div-le_of_le-mul b (mul-le-mul_right (2 ^ 64) h) in
-    let o = run-le (a * 2 ^ 64 / b * (a * 2 ^ 64 / b) / 2 ^ 64) 1 21 (div-le_of_le-mul (2 ^ 64) (mul-le-mul t t)) in
+    let o = odds-le (a * 2 ^ 64 / b * (a * 2 ^ 64 / b) / 2 ^ 64) 1 21 (div-le_of_le-mul (2 ^ 64) (mul-le-mul t t)) in
     div-le_of_le-mul (2 ^ 64) (mul-le-mul t o)
 
 at_size : (N : ℕ) → 0 < N → N < 2 ^ 1091 → Small 1090 (logarithm_at N)

@@ -1,4 +1,4 @@
--- By the refusal: words and a number, or two.
+-- Words and a number, by the refusal.
 use native.Mathlib.Omega.{arith}
 use borrow.Author.Tests.{eq-eqb, ne_eqb}
 use Rattle.monthly.specs.Monthly.{stop_text}
@@ -17,24 +17,16 @@ unfolding stop_text
 returns c = let p = c.put-note.ensures in
     (rw (eq-eqb _ 10 c.before.before.before.if1.true) p.put, omega (arith, p.short))
 
-put-halt-requires : tie.Need-put-halt-requires
-put-halt-requires c κs = search rules
-
-returns-2 : tie.Need-returns-2
-unfolding stop_text
-returns-2 c = let p = c.put-halt.ensures in
-    (rw (ne_eqb _ 10 c.before.before.before.if1.false, eq-eqb _ 18 c.before.before.if2.true) p.put, omega (arith, p.short))
-
 slice-aggregate-put-note-2 : tie.Need-slice-aggregate-put-note-2
 slice-aggregate-put-note-2 c = search rules
 
 put-note-requires-2 : tie.Need-put-note-requires-2
 put-note-requires-2 c κs = search rules
 
-returns-3 : tie.Need-returns-3
+returns-2 : tie.Need-returns-2
 unfolding stop_text
-returns-3 c = let p = c.put-note2.ensures in
-    (rw (ne_eqb _ 10 c.before.before.before.before.if1.false, ne_eqb _ 18 c.before.before.before.if2.false) p.put, omega (arith, p.short))
+returns-2 c = let p = c.put-note2.ensures in
+    (rw (ne_eqb _ 10 c.before.before.before.if1.false) p.put, omega (arith, p.short))
 
 pub put-stop-spec : {M : Type 1} → statement M
 put-stop-spec =
@@ -43,8 +35,6 @@ put-stop-spec =
     slice-aggregate-put-note
     put-note-requires
     returns
-    put-halt-requires
-    returns-2
     slice-aggregate-put-note-2
     put-note-requires-2
-    returns-3)
+    returns-2)

@@ -1,22 +1,11 @@
 -- Refused, not written, or written.
-use mathlib.Core.Path.{◌≡◌, refl, sym, ap, ◌∙◌}
+use mathlib.Core.Path.{refl, sym, ap, ◌∙◌}
 use borrow.Author.Tests.{not-true, not-false}
-use mathlib.Core.Bool.{false}
-use mathlib.Core.List.{List}
-use Prim.Native.Nat.{ℕ}
 use Rattle.hextext.specs.declared.Halt.{Halt}
-use Rattle.hextext.specs.HexText.{Came, came}
-use Rattle.hextext.specs.Whole.{take_of, zeros_for}
-use Rattle.reading.specs.Taken.{sheet_of, end_of, halt_line, refused, unwritten, written}
+use Rattle.reading.specs.Taken.{halt_line, refused, unwritten, written}
 use borrow.Author.Rules.{rules}
 use Rattle.reading.proofs.settle.Statement.{statement}
 use Rattle.reading.proofs.settle.Tie as tie
-
--- what came of the lent zeros
-took : (t s u : List ℕ) (h : Halt) → s ≡ zeros_for t → came u h ≡ take_of false t s → (h ≡ end_of t) × (u ≡ sheet_of t)
-took t s u h z e =
-    let all = e ∙ ap (take_of false t) z in
-    (ap (λ (x : Came). x.end) all, ap (λ (x : Came). x.sheet) all)
 
 take-requires : tie.Need-take-requires
 take-requires c κs = search rules
@@ -35,12 +24,12 @@ same_length c = search rules
 
 returns : tie.Need-returns
 returns c =
-    let h = took _ _ _ _ c.before.before.before.before.before.before.before.before.before.before.before.before.before.requires c.before.before.before.before.before.before.before.take.ensures in
+    let h = c.before.before.before.before.before.before.before.take.ensures in
     record { text = _; settled = refused (λ e. c.before.before.before.if1.true (ap (λ (x : Halt). x.refusal) h.0 ∙ e)) (ap halt_line h.0); wrote = c.put-halt.ensures }
 
 save-sheet-requires : tie.Need-save-sheet-requires
 save-sheet-requires c κs =
-    let h = took _ _ _ _ c.before.before.before.before.before.before.before.before.before.before.before.requires c.before.before.before.before.before.take.ensures in
+    let h = c.before.before.before.before.before.take.ensures in
     record { text = c.before.before.before.before.before.before.before.before.before.before.before.args.text.now; taken = ap (λ (x : Halt). x.refusal) (sym h.0) ∙ c.before.if1.false; is = h.1 }
 
 slice-aggregate-tell-2 : tie.Need-slice-aggregate-tell-2
@@ -57,7 +46,7 @@ same-length-2 c = search rules
 
 returns-2 : tie.Need-returns-2
 returns-2 c =
-    let h = took _ _ _ _ c.before.before.before.before.before.before.before.before.before.before.before.before.before.before.before.before.requires c.before.before.before.before.before.before.before.before.before.before.take.ensures in
+    let h = c.before.before.before.before.before.before.before.before.before.before.take.ensures in
     let k = c.before.before.before.before.save-sheet in
     record {
       text = _;
@@ -79,7 +68,7 @@ same-length-3 c = search rules
 
 returns-3 : tie.Need-returns-3
 returns-3 c =
-    let h = took _ _ _ _ c.before.before.before.before.before.before.before.before.before.before.before.before.before.before.before.before.before.requires c.before.before.before.before.before.before.before.before.before.before.before.take.ensures in
+    let h = c.before.before.before.before.before.before.before.before.before.before.before.take.ensures in
     let k = c.before.before.before.before.before.save-sheet in
     record {
       text = _;

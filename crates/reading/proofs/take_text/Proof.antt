@@ -1,7 +1,7 @@
 -- A part of the zeros is lent.
 use native.Mathlib.Nat.{sub-zero}
 use Rattle.page.specs.Page.{largest}
-use Rattle.hextext.specs.laws.Zeros.{take-zeros}
+use Rattle.reading.specs.laws.Zeros.{take-zeros}
 use borrow.Author.Rules.{rules}
 use Rattle.reading.proofs.take_text.Statement.{statement}
 use Rattle.reading.proofs.take_text.Tie as tie

@@ -1,16 +1,12 @@
--- The report that a run sends is the one that month's laws are about (02, [2]): of the sheets that were read, as files or as text, each under the number of its word. Assumes nothing.
-use Rattle.std.specs.Prelude.{◌≡◌, ℕ, ◌+◌, ◌≤◌, Bool, not, List, [], ◌∷◌, ◌++◌}
-use Rattle.std.proofs.Math.Path.{refl}
+-- The report that a run sends is the one that month's laws are about (02, [2]): of the files that were read, each under the number of its word. Assumes nothing.
+use Rattle.std.specs.Prelude.{◌≡◌, refl, ℕ, ◌+◌, ◌≤◌, Bool, true, false, cond, List, [], ◌∷◌, ◌++◌}
 use Rattle.std.proofs.Common.{sym, ap, ◌∙◌, subst, add_assoc, add_comm, arith}
-use Rattle.std.proofs.Math.Dec.{eqb}
-use Rattle.std.proofs.Math.Bool.{true, false, cond}
 use Rattle.month.specs.declared.parts.Report.{Report}
 use Rattle.month.specs.Month.{start_of, added_of}
 use Rattle.month.specs.Files.{File, most_files, taken, month_on, sheets_in, Meaning}
 use Rattle.month.specs.laws.Month.{month}
-use Rattle.hextext.specs.HexText.{Came}
 use Rattle.reporting.specs.declared.parts.Fate.{Fate}
-use Rattle.reporting.specs.Reporting.{came_of, fate, sheet_fate, came_fate, fate_of, taken_in, came_report, after_file, apart_of, Took, none, more}
+use Rattle.reporting.specs.Reporting.{fate_of, taken_in, after_file, apart_of, Took, none, more}
 
 -- ---- one file more
 
@@ -35,48 +31,32 @@ one_of_both false = refl
 
 -- ---- all of them
 
--- the sheets that were read, a text's among them; those taken and those not are all n
+-- the files that were read; those taken and those not are all n
 pub record Read (n : ℕ) (r : Report) (fates : List Fate) : Type 0 where
   pub files : List File
   pub report : r ≡ month_on start_of files
   pub all : sheets_in files + apart_of fates ≡ n
 
-module _ (n : ℕ) (r new : Report) (fs : List Fate) (f : Fate) (h : Read n r fs) where
-  -- one that adds nothing: it can't be read, or it is a text that halts
-  none_more : taken_in f ≡ false → new ≡ r → Read (n + 1) new (fs ++ (f ∷ []))
-  none_more e a =
-      let apart : apart_of (fs ++ (f ∷ [])) ≡ apart_of fs + 1 = apart_more fs f ∙ ap (λ (b : Bool). apart_of fs + cond b 0 1) e in
-      record { files = h.files; report = a ∙ h.report; all = omega (arith, apart, h.all) }
-
-  -- a sheet
-  sheet_more : (s : List ℕ) → taken_in f ≡ taken s → new ≡ added_of r (n + 1) s → Read (n + 1) new (fs ++ (f ∷ []))
-  sheet_more s is a =
-      let file : File = record { number = n + 1; bytes = s } in
-      let apart : apart_of (fs ++ (f ∷ [])) ≡ apart_of fs + cond (taken s) 0 1 = apart_more fs f ∙ ap (λ (b : Bool). apart_of fs + cond b 0 1) is in
-      record {
-        files = h.files ++ (file ∷ []);
-        report = a ∙ ap (λ (q : Report). added_of q (n + 1) s) h.report ∙ sym (month_more start_of h.files file);
-        all = omega (arith, sheets_more h.files file, apart, h.all, one_of_both (taken s));
-      }
-
-  came_more : (c : Came) → f ≡ came_fate c → new ≡ came_report r (n + 1) c → Read (n + 1) new (fs ++ (f ∷ []))
-  unfolding came_fate came_report sheet_fate taken_in
-  came_more c e a = by (eqb c.end.refusal 0) refl e a
-    where
-      by : (b : Bool) → eqb c.end.refusal 0 ≡ b → f ≡ cond (not b) (fate true c.end.refusal c.end.line c.end.column) (sheet_fate c.sheet)
-          → new ≡ cond (not b) r (added_of r (n + 1) c.sheet) → Read (n + 1) new (fs ++ (f ∷ []))
-      by true z e a = sheet_more c.sheet (ap taken_in e) a
-      by false z e a = none_more (ap taken_in e ∙ z) a
-
-  one_more_lem : (read : Bool) (bytes : List ℕ) → f ≡ fate_of read bytes → new ≡ after_file r (n + 1) read bytes → Read (n + 1) new (fs ++ (f ∷ []))
-  unfolding fate_of after_file taken_in
-  one_more_lem true bytes e a = came_more (came_of bytes) e a
-  one_more_lem false bytes e a = none_more (ap taken_in e) a
+one_more_lem : (n : ℕ) (r new : Report) (fs : List Fate) (f : Fate) (read : Bool) (bytes : List ℕ) → f ≡ fate_of read bytes → new ≡ after_file r (n + 1) read bytes → Read n r fs
+    → Read (n + 1) new (fs ++ (f ∷ []))
+unfolding fate_of after_file taken_in
+one_more_lem n r new fs f true bytes e a h =
+    let file : File = record { number = n + 1; bytes = bytes } in
+    let is : taken_in f ≡ taken bytes = ap taken_in e in
+    let apart : apart_of (fs ++ (f ∷ [])) ≡ apart_of fs + cond (taken bytes) 0 1 = apart_more fs f ∙ ap (λ (b : Bool). apart_of fs + cond b 0 1) is in
+    record {
+      files = h.files ++ (file ∷ []);
+      report = a ∙ ap (λ (q : Report). added_of q (n + 1) bytes) h.report ∙ sym (month_more start_of h.files file);
+      all = omega (arith, sheets_more h.files file, apart, h.all, one_of_both (taken bytes));
+    }
+one_more_lem n r new fs f false bytes e a h =
+    let apart : apart_of (fs ++ (f ∷ [])) ≡ apart_of fs + 1 = apart_more fs f ∙ ap (λ (g : Fate). apart_of fs + cond (taken_in g) 0 1) e in
+    record { files = h.files; report = a ∙ h.report; all = omega (arith, apart, h.all) }
 
 pub took_read : {n : ℕ} {r : Report} {fs : List Fate} → Took n r fs → Read n r fs
 unfolding month_on sheets_in apart_of
 took_read none = record { files = []; report = refl; all = refl }
-took_read (more {n} {r} {new} {fs} {f} t m) = one_more_lem n r new fs f (took_read t) m.read m.bytes m.fate m.report
+took_read (more {n} {r} {new} {fs} {f} t m) = one_more_lem n r new fs f m.read m.bytes m.fate m.report (took_read t)
 
 module _ {n : ℕ} {r : Report} {fs : List Fate} (t : Took n r fs) (few : n ≤ most_files) where
   -- it says what 02 asks of those files

@@ -1,6 +1,5 @@
 -- The place of the row that the entry is worked out to.
 use mathlib.Core.Path.{◌∙◌, ap}
-use mathlib.Core.Bool.{false}
 use Rattle.ledger.specs.Calls.{place_refusal, place_of}
 use Rattle.sheet.specs.laws.Placed.{placed_refusal, placed_edit}
 use borrow.Author.Rules.{rules}
@@ -26,7 +25,7 @@ returns c =
     let s = a.sheet.now in
     let p = c.before.before.place.ensures in
     let w = c.before.before.before.words.ensures in
-    (p.0 ∙ ap (place_refusal false s a.row) w ∙ placed_refusal s a.row a.entry, p.1 ∙ ap (place_of false s a.row) w ∙ placed_edit s a.row a.entry)
+    (p.0 ∙ ap (place_refusal s a.row) w ∙ placed_refusal s a.row a.entry, p.1 ∙ ap (place_of s a.row) w ∙ placed_edit s a.row a.entry)
 
 pub edit-spec : {M : Type 1} → statement M
 edit-spec = tie.close (tie.spec words-requires place-requires same_length returns)

@@ -1,5 +1,5 @@
 -- An edit is its row put in place: the row is always sound, so 10 speaks of the old row and the counts alone. Assumes nothing.
-use Rattle.std.specs.Prelude.{◌≡◌, Bool, false, not, ◌||◌, List, ℕ, eqb}
+use Rattle.std.specs.Prelude.{◌≡◌, Bool, not, ◌||◌, List, ℕ, eqb}
 use Rattle.std.proofs.Math.Path.{ap}
 use Rattle.std.proofs.Common.{◌∙◌}
 use Rattle.std.proofs.Math.Bool.{cond}
@@ -11,14 +11,14 @@ use Rattle.sheet.specs.Edit.{row_of, edit_refusal, edit_of}
 use Rattle.sheet.specs.laws.Stored.{function_row_of, sound_row_of}
 
 module _ (s : List ℕ) (i : ℕ) (e : Entry) where
-  pub placed_refusal : place_refusal false s i (row_of e) ≡ edit_refusal s i e.function
-  unfolding place_refusal edit_refusal rungs
+  pub placed_refusal : place_refusal s i (row_of e) ≡ edit_refusal s i e.function
+  unfolding place_refusal edit_refusal
   placed_refusal =
       ap (λ (q : ℕ). cond (not (is_sheet_of with_times s)) 7 q)
       (ap (λ (f : ℕ). rungs (rows_in s) i f (cond (not (sound (row_of e)) || damaged s i) 10 0)) (function_row_of e)
       ∙ rungs-same (rows_in s) i e.function _ _ (λ h. ap (λ (b : Bool). cond (not b || damaged s i) 10 0) (sound_row_of e h)))
 
-  pub placed_edit : place_of false s i (row_of e) ≡ edit_of s i e
+  pub placed_edit : place_of s i (row_of e) ≡ edit_of s i e
   unfolding place_of edit_of
   placed_edit = ap (λ (q : ℕ). cond (eqb q 0) (edited s i (row_of e)) s) placed_refusal
 

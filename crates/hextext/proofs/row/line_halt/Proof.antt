@@ -23,7 +23,7 @@ halted-requires-2 c κs = search rules
 
 returns-2 : tie.Need-returns-2
 unfolding line_halt
-returns-2 c = rw (← c.before.before.before.before.stop.ensures, eq-eqb _ 0 c.before.before.before.if1.false) (rw (← c.before.before.value.ensures, c.before.if2.true) c.halted2.ensures)
+returns-2 c = rw (← c.before.before.before.before.stop.ensures, eq-eqb _ 0 c.before.before.before.if1.false) (rw (← c.before.before.value.ensures, eq-eqb _ 1 c.before.if2.true) c.halted2.ensures)
 
 differ-requires : tie.Need-differ-requires
 differ-requires c κs = search rules
@@ -35,7 +35,7 @@ returns-3 : tie.Need-returns-3
 unfolding line_halt
 returns-3 c =
     rw (← c.before.before.before.before.before.before.stop.ensures, eq-eqb _ 0 c.before.before.before.before.before.if1.false)
-    (rw (← c.before.before.before.before.value.ensures, c.before.before.before.if2.false) (rw (← c.before.before.differ.ensures, ne_eqb _ 0 c.before.if3.true) c.halted3.ensures))
+    (rw (← c.before.before.before.before.value.ensures, ne_eqb _ 1 c.before.before.before.if2.false) (rw (← c.before.before.differ.ensures, ne_eqb _ 0 c.before.if3.true) c.halted3.ensures))
 
 halted-requires-4 : tie.Need-halted-requires-4
 halted-requires-4 c κs = search rules
@@ -44,7 +44,7 @@ returns-4 : tie.Need-returns-4
 unfolding line_halt
 returns-4 c =
     rw (← c.before.before.before.before.before.before.stop.ensures, eq-eqb _ 0 c.before.before.before.before.before.if1.false)
-    (rw (← c.before.before.before.before.value.ensures, c.before.before.before.if2.false) (rw (← c.before.before.differ.ensures, eq-eqb _ 0 c.before.if3.false) c.halted4.ensures))
+    (rw (← c.before.before.before.before.value.ensures, ne_eqb _ 1 c.before.before.before.if2.false) (rw (← c.before.before.differ.ensures, eq-eqb _ 0 c.before.if3.false) c.halted4.ensures))
 
 pub line-halt-spec : {M : Type 1} → statement M
 line-halt-spec =

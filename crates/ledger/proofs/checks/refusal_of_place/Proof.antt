@@ -37,7 +37,7 @@ returns : tie.Need-returns
 returns c =
     let a = c.before.before.before.before.args in
     let q = told a.s.now a.row _ _ c.before.refusal-in.ensures c.before.before.says.ensures in
-    q ∙ place-row a.old a.s.now a.row (fields 8 a.words) (λ z. c.if1.true (q ∙ z))
+    q ∙ place-row a.s.now a.row (fields 8 a.words) (λ z. c.if1.true (q ∙ z))
 
 refusal-of-function-requires : tie.Need-refusal-of-function-requires
 refusal-of-function-requires c κs = search rules
@@ -48,7 +48,7 @@ returns-2 c =
     let k = asked a.s.now a.row _ _ c.before.before.before.refusal-in.ensures c.before.before.before.before.says.ensures c.before.before.if1.false in
     let w = fields 8 a.words in
     let f = c.before.refusal-of-function.ensures in
-    f ∙ place_function a.old a.s.now a.row w k.0 k.1 (λ z. c.if2.true (f ∙ z))
+    f ∙ place_function a.s.now a.row w k.0 k.1 (λ z. c.if2.true (f ∙ z))
 
 words-sound-requires : tie.Need-words-sound-requires
 words-sound-requires c κs = search rules
@@ -58,7 +58,7 @@ returns-3 c =
     let a = c.before.before.before.before.before.before.before.before.args in
     let k = asked a.s.now a.row _ _ c.before.before.before.before.before.refusal-in.ensures c.before.before.before.before.before.before.says.ensures c.before.before.before.before.if1.false in
     let w = fields 8 a.words in
-    place_new a.old a.s.now a.row w k.0 k.1 (sym c.before.before.before.refusal-of-function.ensures ∙ c.before.before.if2.false) (sym c.before.words-sound.ensures ∙ not-true _ c.if3.true)
+    place_new a.s.now a.row w k.0 k.1 (sym c.before.before.before.refusal-of-function.ensures ∙ c.before.before.if2.false) (sym c.before.words-sound.ensures ∙ not-true _ c.if3.true)
 
 is-damaged-requires : tie.Need-is-damaged-requires
 is-damaged-requires c κs =
@@ -71,14 +71,14 @@ returns-4 c =
     let a = c.before.before.before.before.before.before.before.before.before.before.args in
     let k = asked a.s.now a.row _ _ c.before.before.before.before.before.before.before.refusal-in.ensures c.before.before.before.before.before.before.before.before.says.ensures c.before.before.before.before.before.before.if1.false in
     let w = fields 8 a.words in
-    place_old a.old a.s.now a.row w k.0 k.1 (sym c.before.before.before.before.before.refusal-of-function.ensures ∙ c.before.before.before.before.if2.false) (sym c.before.before.before.words-sound.ensures ∙ not-false _ c.before.before.if3.false) (sym c.before.is-damaged.ensures ∙ c.if4.true)
+    place_old a.s.now a.row w k.0 k.1 (sym c.before.before.before.before.before.refusal-of-function.ensures ∙ c.before.before.before.before.if2.false) (sym c.before.before.before.words-sound.ensures ∙ not-false _ c.before.before.if3.false) (sym c.before.is-damaged.ensures ∙ c.if4.true)
 
 returns-5 : tie.Need-returns-5
 returns-5 c =
     let a = c.before.before.before.before.before.before.before.before.before.before.args in
     let k = asked a.s.now a.row _ _ c.before.before.before.before.before.before.before.refusal-in.ensures c.before.before.before.before.before.before.before.before.says.ensures c.before.before.before.before.before.before.if1.false in
     let w = fields 8 a.words in
-    place_0 a.old a.s.now a.row w k.0 k.1 (sym c.before.before.before.before.before.refusal-of-function.ensures ∙ c.before.before.before.before.if2.false) (sym c.before.before.before.words-sound.ensures ∙ not-false _ c.before.before.if3.false) (sym c.before.is-damaged.ensures ∙ c.if4.false)
+    place_0 a.s.now a.row w k.0 k.1 (sym c.before.before.before.before.before.refusal-of-function.ensures ∙ c.before.before.before.before.if2.false) (sym c.before.before.before.words-sound.ensures ∙ not-false _ c.before.before.if3.false) (sym c.before.is-damaged.ensures ∙ c.if4.false)
 
 pub refusal-of-place-spec : {M : Type 1} → statement M
 refusal-of-place-spec =

@@ -4,21 +4,21 @@ use Prim.Native.Nat.{ℕ, ◌+◌, ◌-◌, ◌*◌, ◌/◌, ◌%◌, ◌^◌, 
 use native.Mathlib.Omega.{arith}
 use borrow.Author.Rules.{rules}
 use mir.Facts.{Fits-le, Fits-lit}
-use Rattle.bounds.specs.Sums.{run_of}
-use Rattle.bounds.specs.laws.Runs.{run-le}
+use Rattle.logarithm.specs.Logarithm.{odds_of}
+use Rattle.logarithm.proofs.Odds.{odds-le}
 use Rattle.bits.specs.laws.Wide.{high_is}
 use Rattle.logarithm.proofs.Loops.{odds_turn}
 use Rattle.logarithm.proofs.series.odds.Statement.{statement}
 use Rattle.logarithm.proofs.series.odds.Tie as tie
 
 abbrev invariant-loop : tie.invariant-loop
-invariant-loop w h₀ n₀ h n = (n ≤ 43) × (n % 2 ≡ 1) × (h ≡ run_of w n 2 ((43 - n) / 2))
+invariant-loop w h₀ n₀ h n = (n ≤ 43) × (n % 2 ≡ 1) × (h ≡ odds_of w n ((43 - n) / 2))
 
 abbrev decreases-loop : tie.decreases-loop
 decreases-loop w h₀ n₀ h n = n
 
 loop-holds : tie.Need-loop-init invariant-loop decreases-loop
-unfolding run_of
+unfolding odds_of
 loop-holds c = (omega arith, refl, refl)
 
 sub-n : tie.Need-overflow-sub-n invariant-loop decreases-loop
@@ -34,7 +34,7 @@ product-requires : tie.Need-product-requires invariant-loop decreases-loop
 product-requires c κs = search rules
 
 -- the next sum
-next : (c : tie.After-product invariant-loop decreases-loop) → 2 ^ 63 / (c.before.before.loop.n - 2) + c.product.result.high ≡ run_of c.before.before.before.args.w (c.before.before.loop.n - 2) 2 ((43 - (c.before.before.loop.n - 2)) / 2)
+next : (c : tie.After-product invariant-loop decreases-loop) → 2 ^ 63 / (c.before.before.loop.n - 2) + c.product.result.high ≡ odds_of c.before.before.before.args.w (c.before.before.loop.n - 2) ((43 - (c.before.before.loop.n - 2)) / 2)
 next c =
     let b = c.before.before in
     let s = b.before in
@@ -45,7 +45,7 @@ add-h : tie.Need-overflow-add-h invariant-loop decreases-loop
 add-h c =
     let b = c.before.before.before in
     let s = b.before in
-    Fits-le (subst (λ (z : ℕ). z ≤ 9 * 2 ^ 60) (sym (next c.before)) (run-le s.args.w (b.loop.n - 2) 2 ((43 - (b.loop.n - 2)) / 2) s.requires)) (Fits-lit tt)
+    Fits-le (subst (λ (z : ℕ). z ≤ 9 * 2 ^ 60) (sym (next c.before)) (odds-le s.args.w (b.loop.n - 2) ((43 - (b.loop.n - 2)) / 2) s.requires)) (Fits-lit tt)
 
 loop-less : tie.Need-loop-smaller invariant-loop decreases-loop
 loop-less c = omega arith
@@ -67,7 +67,7 @@ returns : tie.Need-returns invariant-loop decreases-loop
 returns c =
     let b = c.before in
     let i = b.loop.invariant in
-    i.2 ∙ ap (λ (n : ℕ). run_of b.before.args.w n 2 ((43 - n) / 2)) (one b.loop.n c.loop-test.false i.1)
+    i.2 ∙ ap (λ (n : ℕ). odds_of b.before.args.w n ((43 - n) / 2)) (one b.loop.n c.loop-test.false i.1)
   where
     one : (n : ℕ) → n ≤ 1 → n % 2 ≡ 1 → n ≡ 1
     one n l h = omega arith

@@ -1,4 +1,4 @@
--- Not read, or taken.
+-- Not read, or stopped and added.
 use native.Mathlib.Nat.{sub-zero}
 use borrow.Author.Tests.{not-true, not-false}
 use Rattle.reporting.proofs.Files.{met_unread, met_read}
@@ -9,62 +9,75 @@ use Rattle.reporting.proofs.taking.take_file.Tie as tie
 word-requires : tie.Need-word-requires
 word-requires c κs = search rules
 
-sub-load-into : tie.Need-overflow-sub-load-into
-sub-load-into c = search rules
+sub-load : tie.Need-overflow-sub-load
+sub-load c = search rules
 
-part-load-into-start : tie.Need-slice-bounds-load-into-start
-part-load-into-start c = search rules
+part-load-start : tie.Need-slice-bounds-load-start
+part-load-start c = search rules
 
-part-load-into-end : tie.Need-slice-bounds-load-into-end
-part-load-into-end c = search rules
+part-load-end : tie.Need-slice-bounds-load-end
+part-load-end c = search rules
 
-slice-aggregate-load-into : tie.Need-slice-aggregate-load-into
-slice-aggregate-load-into c = search rules
-
-load-into-requires : tie.Need-load-into-requires
-load-into-requires c κs = search rules
+load-requires : tie.Need-load-requires
+load-requires c κs = search rules
 
 returns : tie.Need-returns
 returns c =
-    let a = c.before.before.before.before.before.before.before.before.before.args in
-    let w = c.before.before.before.before.before.before.before.word in
-    let l = c.before.before.before.load-into in
+    let a = c.before.before.before.before.before.before.before.before.args in
+    let w = c.before.before.before.before.before.before.word in
+    let l = c.before.before.load in
     met_unread a.n a.report _ _ w.ensures.0 l.result.ok (rw (sub-zero w.result) at l.ensures.0) (not-true l.result.ok c.if1.true)
 
-sub-take-bytes : tie.Need-overflow-sub-take-bytes
-sub-take-bytes c = search rules
+sub-stop : tie.Need-overflow-sub-stop
+sub-stop c = search rules
 
-part-take-bytes-start : tie.Need-slice-bounds-take-bytes-start
-part-take-bytes-start c = search rules
+part-stop-start : tie.Need-slice-bounds-stop-start
+part-stop-start c = search rules
 
-part-take-bytes-end : tie.Need-slice-bounds-take-bytes-end
-part-take-bytes-end c = search rules
+part-stop-end : tie.Need-slice-bounds-stop-end
+part-stop-end c = search rules
 
-take-bytes-requires : tie.Need-take-bytes-requires
-take-bytes-requires c κs = search rules
+stop-requires : tie.Need-stop-requires
+stop-requires c κs = search rules
+
+sub-add : tie.Need-overflow-sub-add
+sub-add c = search rules
+
+part-add-start : tie.Need-slice-bounds-add-start
+part-add-start c = search rules
+
+part-add-end : tie.Need-slice-bounds-add-end
+part-add-end c = search rules
+
+add-requires : tie.Need-add-requires
+add-requires c κs = search rules
 
 returns-2 : tie.Need-returns-2
 returns-2 c =
-    let a = c.before.before.before.before.before.before.before.before.before.before.before.before.args in
-    let w = c.before.before.before.before.before.before.before.before.before.before.word in
-    let l = c.before.before.before.before.before.before.load-into in
-    let s = c.take-bytes.ensures in
-    met_read a.n a.report _ _ w.ensures.0 l.result.ok (rw (sub-zero w.result) at l.ensures.0) _ _ (not-false l.result.ok c.before.before.before.if1.false)
-    (rw (sub-zero l.result.length) at s.0) (rw (sub-zero l.result.length) at s.1)
+    let b = c.before.before.before.before.before.before.before.before in
+    let a = b.before.before.before.before.before.before.args in
+    let w = b.before.before.before.before.word in
+    let l = b.load in
+    let s = c.before.before.before.stop in
+    met_read a.n a.report _ _ w.ensures.0 l.result.ok (rw (sub-zero w.result) at l.ensures.0) c.add.result s.result (not-false l.result.ok c.before.before.before.before.before.before.if1.false)
+    (rw (sub-zero l.result.length) at s.ensures) (rw (sub-zero l.result.length) at c.add.ensures)
 
 pub take-file-spec : {M : Type 1} → statement M
 take-file-spec =
     tie.close
     (tie.spec
     word-requires
-    sub-load-into
-    part-load-into-start
-    part-load-into-end
-    slice-aggregate-load-into
-    load-into-requires
+    sub-load
+    part-load-start
+    part-load-end
+    load-requires
     returns
-    sub-take-bytes
-    part-take-bytes-start
-    part-take-bytes-end
-    take-bytes-requires
+    sub-stop
+    part-stop-start
+    part-stop-end
+    stop-requires
+    sub-add
+    part-add-start
+    part-add-end
+    add-requires
     returns-2)

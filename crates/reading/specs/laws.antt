@@ -1,0 +1,2 @@
+-- A part of zeros is zeros.
+pub mod Zeros

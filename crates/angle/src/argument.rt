@@ -32,7 +32,7 @@ fn square(digits: u64, exponent: u64) -> u64
 }
 
 // A refusal number, or 0, and then ± digits * 2^exponent smallest f64, at most 4, with its square.
-#[derive(Drop)]
+#[derive(Clone, Copy)]
 pub struct Angle {
     pub refusal: u8,
     pub negative: bool,

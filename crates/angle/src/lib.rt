@@ -85,7 +85,7 @@ pub fn sine(x: f64) -> Answer
 }
 
 // The two answers of one angle.
-#[derive(Drop)]
+#[derive(Clone, Copy)]
 pub struct Circle {
     pub sine: Answer,
     pub cosine: Answer,

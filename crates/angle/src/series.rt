@@ -8,7 +8,7 @@ use bits::product;
 const ONE: u64 = 0x1000_0000_0000_0000;
 
 // What a sum adds and what it takes away, in units of 2^-60.
-#[derive(Drop)]
+#[derive(Clone, Copy)]
 pub struct Balance {
     pub added: u64,
     pub taken: u64,

@@ -15,17 +15,17 @@ pub fn stored(refusal: u8) -> bool
 }
 
 // The three sorts of argument: a call that gives one where another belongs does not build.
-#[derive(Drop)]
+#[derive(Clone, Copy)]
 pub struct Amplitude(pub f64);
 
-#[derive(Drop)]
+#[derive(Clone, Copy)]
 pub struct Characteristic(pub f64);
 
-#[derive(Drop)]
+#[derive(Clone, Copy)]
 pub struct Parameter(pub f64);
 
 // One finite answer, a pair, an infinity (true: -∞), or a refusal by its number.
-#[derive(Drop)]
+#[derive(Clone, Copy)]
 pub enum Answer {
     One(f64),
     Pair(f64, f64),
@@ -34,7 +34,7 @@ pub enum Answer {
 }
 
 // An answer read out: its refusal number, 0 where there is none, and its two values, +0 where there is none.
-#[derive(Drop)]
+#[derive(Clone, Copy)]
 pub struct Readout {
     pub refusal: u8,
     pub first: f64,
@@ -42,7 +42,7 @@ pub struct Readout {
 }
 
 // The value of a formula over recipes; it counts only where each of them was met.
-#[derive(Drop)]
+#[derive(Clone, Copy)]
 pub struct Term {
     pub value: f64,
     pub met: bool,
@@ -51,7 +51,7 @@ pub struct Term {
 }
 
 // An answer, and the rounds of all recipes that were asked for it.
-#[derive(Drop)]
+#[derive(Clone, Copy)]
 pub struct Counted {
     pub answer: Answer,
     pub rounds: usize,

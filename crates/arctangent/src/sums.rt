@@ -6,7 +6,7 @@ ghost use Rattle.arctangent.specs.Arctangent.{sides, factor_of, next_to};
 use bits::{quotient, upper};
 
 // What a sum adds and what it takes away.
-#[derive(Drop)]
+#[derive(Clone, Copy)]
 pub struct Sides {
     pub added: u64,
     pub taken: u64,

@@ -1,7 +1,7 @@
 // What `parts` returns. (A function and a struct of one name do not stand in one file.)
 
 // digits * 2^exponent smallest values, 2^-1074 each.
-#[derive(Drop)]
+#[derive(Clone, Copy)]
 pub struct Parts {
     pub finite: bool,
     pub negative: bool,

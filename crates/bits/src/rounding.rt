@@ -46,7 +46,7 @@ fn dropped(e: u64) -> u64
 }
 
 // The digits of w from 2^s on, and those below.
-#[derive(Drop)]
+#[derive(Clone, Copy)]
 struct Cut {
     high: u64,
     low: u64,

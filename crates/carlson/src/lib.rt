@@ -4,7 +4,7 @@ ghost use Rattle.std.specs.Prelude.{◌≡◌};
 ghost use Rattle.carlson.specs.Series.{larger_of, fifth_of, trusted_of};
 
 // What a recipe gives: `value` counts only where `met`, else the refusal is 5.
-#[derive(Drop)]
+#[derive(Clone, Copy)]
 pub struct Outcome {
     pub value: f64,
     pub met: bool,
@@ -14,7 +14,7 @@ pub struct Outcome {
 }
 
 // Those of two recipes that made their rounds together.
-#[derive(Drop)]
+#[derive(Clone, Copy)]
 pub struct Both {
     pub first: Outcome,
     pub second: Outcome,

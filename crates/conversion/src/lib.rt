@@ -9,7 +9,7 @@ ghost use Rattle.ledger.specs.Calls.{row_in, count_of};
 ghost use Rattle.conversion.specs.Conversion.{says_before, says_after, turned, turned_rows, first_of, rejected, uncounted, oftener, tested, stop_of, converted_of};
 
 // What refuses the call, 0 for nothing, and the row that it is about.
-#[derive(Drop)]
+#[derive(Clone, Copy)]
 pub struct Stop {
     pub refusal: u8,
     pub row: u32,

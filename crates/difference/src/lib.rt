@@ -15,7 +15,7 @@ use limbs::{minus, raised};
 mod limbs;
 
 // What refuses the comparison: the number, the sheet that it is about (1 the old one, 2 the new one, 0 neither) and the row; all 0: nothing.
-#[derive(Drop)]
+#[derive(Clone, Copy)]
 pub struct Stop {
     pub refusal: u8,
     pub sheet: u8,
@@ -23,7 +23,7 @@ pub struct Stop {
 }
 
 // How a row differs.
-#[derive(Drop)]
+#[derive(Clone, Copy)]
 pub enum Change {
     // Not: its 48 bytes agree.
     Same,
@@ -38,7 +38,7 @@ pub enum Change {
 }
 
 // The new total less the old one: whether it is below zero, and its size.
-#[derive(Drop)]
+#[derive(Clone, Copy)]
 pub struct Growth {
     pub negative: bool,
     pub limbs: [u64; 34],

@@ -6,13 +6,13 @@ ghost use Rattle.std.specs.Prelude.{◌≡◌, ◌+◌, ◌*◌, ◌≤◌, ◌<
 ghost use Rattle.total.specs.Total.{val, N};
 ghost use Rattle.difference.specs.Limbs.{raised_of};
 
-#[derive(Drop)]
+#[derive(Clone, Copy)]
 pub struct Limb {
     pub limb: u64,
     pub borrow: u64,
 }
 
-#[derive(Drop)]
+#[derive(Clone, Copy)]
 pub struct Taken {
     pub limbs: [u64; 34],
     pub borrow: u64,

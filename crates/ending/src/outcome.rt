@@ -7,7 +7,7 @@ ghost use Rattle.ending.specs.Outcome.{instead_of, text_of};
 use page::{LARGEST, ROOM};
 
 // How many lines were taken, how many bytes of the next are held (84: too many), the sheet's bytes, whether there is a sheet, and whether the last line was bad.
-#[derive(Drop)]
+#[derive(Clone, Copy)]
 pub struct State {
     pub lines: u64,
     pub held: usize,

@@ -3,7 +3,7 @@ ghost use Rattle.std.specs.Prelude.{◌≡◌};
 ghost use Rattle.files.specs.Output.{output_of, Wrote};
 
 // Where the text goes, how many pieces were sent there, and whether all of them were taken.
-#[derive(Drop)]
+#[derive(Clone, Copy)]
 pub struct Output {
     pub file: i32,
     pub sends: u64,

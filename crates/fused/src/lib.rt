@@ -24,7 +24,7 @@ const PRODUCT_UNIT: u64 = 2340 - 2 * 1074 - 2 * 63;
 const ADDEND_UNIT: u64 = 2340 - 1074 - 63 - 64;
 
 // A float's digits moved up to 63 places; 0 stays 0.
-#[derive(Drop)]
+#[derive(Clone, Copy)]
 struct Lift {
     digits: u64,
     exponent: u64,
@@ -42,7 +42,7 @@ fn lifted(sig: u64, exp: u64) -> Lift
 }
 
 // An exact number. One place of 128 is left for a carry.
-#[derive(Drop)]
+#[derive(Clone, Copy)]
 struct Place {
     high: u64,
     low: u64,

@@ -4,7 +4,7 @@ ghost use Rattle.bits.specs.Wide.{val};
 ghost use Rattle.fused.specs.Steps.{Shifted};
 
 // What a shift leaves, and whether any digit that it dropped was set.
-#[derive(Drop)]
+#[derive(Clone, Copy)]
 pub(crate) struct Left {
     pub(crate) high: u64,
     pub(crate) low: u64,

@@ -4,7 +4,7 @@ ghost use Rattle.hexfloat.specs.Reading.{hex_digit_of};
 ghost use Rattle.hexfloat.specs.Steps.{no_digits, with_digit, held_from, scaled_of};
 
 // 128 bits of the digits so far, how many were dropped behind those, and whether one of them was not 0; or that a byte was no digit.
-#[derive(Drop)]
+#[derive(Clone, Copy)]
 pub(crate) struct Held {
     pub(crate) high: u64,
     pub(crate) low: u64,

@@ -35,7 +35,7 @@ fn with_exponent(negative: bool, h: Held, behind: usize, s: &[u8]) -> Number
 }
 
 // The digits before the exponent, and how many of them stand behind the point.
-#[derive(Drop)]
+#[derive(Clone, Copy)]
 struct Digits {
     held: Held,
     behind: usize,

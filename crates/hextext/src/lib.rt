@@ -13,7 +13,7 @@ use line::Number;
 use row::{entry, line_halt};
 
 // Why and where reading halted: the refusal, the line and the column, both from 1; 0 where there is none.
-#[derive(Drop)]
+#[derive(Clone, Copy)]
 pub struct Halt {
     pub refusal: u8,
     pub line: u32,

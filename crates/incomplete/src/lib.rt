@@ -28,7 +28,7 @@ pub fn sine(x: f64) -> f64
 }
 
 // The point of the unit circle at an angle.
-#[derive(Drop)]
+#[derive(Clone, Copy)]
 pub struct Point {
     pub sine: f64,
     pub cosine: f64,
@@ -47,7 +47,7 @@ pub fn on_circle(x: f64) -> Point
 }
 
 // |φ| = mm·π/2 + s·angle, angle within a quarter period.
-#[derive(Drop)]
+#[derive(Clone, Copy)]
 pub struct Fold {
     pub angle: f64,
     pub mm: f64,

@@ -83,7 +83,7 @@ fn kind(x: f64) -> usize
 
 // A row's share of the totals: its class, as `count` numbers them, and 5 where a NaN first answer leaves it none; what it brings each time that it was driven, its first answer
 // where that is finite, else +0; and how often.
-#[derive(Drop)]
+#[derive(Clone, Copy)]
 pub struct Share {
     pub class: usize,
     pub value: f64,

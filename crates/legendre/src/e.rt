@@ -9,7 +9,7 @@ use crate::{EPSILON, PI, ROOT_EPSILON};
 use pieces::{centre, e_piece, piece};
 
 // The two means after some rounds, the sum e so far with what its rounding lost, and the next term's power of two.
-#[derive(Drop)]
+#[derive(Clone, Copy)]
 pub(crate) struct Sums {
     pub(crate) x: f64,
     pub(crate) y: f64,

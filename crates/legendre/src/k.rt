@@ -25,7 +25,7 @@ pub(crate) fn goes_on(tolerance: f64, x: f64, y: f64) -> bool
 }
 
 // The two means after some rounds.
-#[derive(Drop)]
+#[derive(Clone, Copy)]
 struct Means {
     x: f64,
     y: f64,

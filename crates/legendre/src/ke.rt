@@ -10,7 +10,7 @@ use crate::k::k_from;
 use answer::Answer;
 use pieces::{centre, e_piece, k_piece, piece};
 
-#[derive(Drop)]
+#[derive(Clone, Copy)]
 pub(crate) struct Both {
     pub(crate) k: f64,
     pub(crate) e: f64,

@@ -6,7 +6,7 @@ use crate::Number;
 use crate::digits::{decimal, pattern};
 
 // The number in a field, and the place where the next field starts: past the line's end where there is none.
-#[derive(Drop)]
+#[derive(Clone, Copy)]
 pub(crate) struct Found {
     pub number: Number,
     pub next: usize,

@@ -11,13 +11,13 @@ use fields::field;
 // The longest line that can be well formed: three numbers of ten digits, three patterns, five spaces.
 pub const LONGEST: usize = 83;
 
-#[derive(Drop)]
+#[derive(Clone, Copy)]
 pub enum Number {
     Value(u64),
     Not,
 }
 
-#[derive(Drop)]
+#[derive(Clone, Copy)]
 pub enum Line {
     Edit {
         row: u32,

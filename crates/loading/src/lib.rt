@@ -11,7 +11,7 @@ use files::{Output, put, put_note};
 pub const MOST: usize = 49481;
 
 // How many bytes stand at the start of the buffer, and whether no read failed.
-#[derive(Drop)]
+#[derive(Clone, Copy)]
 pub struct Loaded {
     pub length: usize,
     pub ok: bool,

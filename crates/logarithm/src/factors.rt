@@ -3,7 +3,7 @@ ghost use Rattle.std.specs.Prelude.{◌≡◌, ◌-◌, ◌*◌, ◌^◌, ◌≤
 ghost use Rattle.logarithm.specs.Logarithm.{Factored};
 
 // 2^(above - below) * n / 2^53
-#[derive(Drop)]
+#[derive(Clone, Copy)]
 pub(crate) struct Factors {
     pub(crate) n: u64,
     pub(crate) above: u64,

@@ -1,14 +1,14 @@
 // What a report and its steps hold. (A function and a struct of one name do not stand in one file.)
 
 // Why a file is not taken: 7, or 10 and the row it is about; 0 where it is taken.
-#[derive(Drop)]
+#[derive(Clone, Copy)]
 pub struct Stop {
     pub refusal: u8,
     pub row: u32,
 }
 
 // The largest or smallest finite first answer so far, as a bit pattern, and where it stands.
-#[derive(Drop)]
+#[derive(Clone, Copy)]
 pub struct Extreme {
     pub found: bool,
     pub pattern: u64,
@@ -17,7 +17,7 @@ pub struct Extreme {
 }
 
 // Sheets taken; rows by class; rows of class refused by their number; the exact total; the extremes.
-#[derive(Drop)]
+#[derive(Clone, Copy)]
 pub struct Report {
     pub sheets: u64,
     pub counts: [u64; 5],
@@ -28,7 +28,7 @@ pub struct Report {
 }
 
 // What a leg brings to the report.
-#[derive(Drop)]
+#[derive(Clone, Copy)]
 pub struct Share {
     pub class: usize,
     pub refusal: u8,

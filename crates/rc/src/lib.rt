@@ -6,7 +6,7 @@ ghost use Rattle.rc.specs.Rc.{start_of, stops_of, round_of, closed_of, rc_of};
 
 use carlson::{Outcome, larger};
 
-#[derive(Drop)]
+#[derive(Clone, Copy)]
 pub(crate) struct State {
     pub x: f64,
     pub y: f64,

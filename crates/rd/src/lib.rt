@@ -10,7 +10,7 @@ use carlson::{Both, Outcome, fifth, larger};
 use rf::{Roots, roots_of};
 
 // `scale` is 4^-k after k rounds, `sum` what the rounds have added. It is open to laws; no public function takes it.
-#[derive(Drop)]
+#[derive(Clone, Copy)]
 pub struct State {
     pub x: f64,
     pub y: f64,

@@ -9,7 +9,7 @@ mod calls;
 mod script;
 
 // The buffer has two halves: in the first stands the sheet, of so many bytes, in the second the one that `D` kept aside.
-#[derive(Drop)]
+#[derive(Clone, Copy)]
 pub struct State {
     pub held: usize,
     pub length: usize,
@@ -138,7 +138,7 @@ fn say(st: State) {
     io::write_all(STDOUT_FILENO, b"\n");
 }
 
-#[derive(Drop)]
+#[derive(Clone, Copy)]
 pub struct Read {
     pub st: State,
     pub more: bool,

@@ -5,7 +5,7 @@ use month::Report;
 pub const MOST_FILES: usize = 400;
 
 // What came of a file: whether it was read, and then what stops it: 7, 10 and its row, or 0: it is taken.
-#[derive(Drop)]
+#[derive(Clone, Copy)]
 pub struct Fate {
     pub read: bool,
     pub refusal: u8,
@@ -13,14 +13,14 @@ pub struct Fate {
 }
 
 // The report after one file, and what came of it.
-#[derive(Drop)]
+#[derive(Clone, Copy)]
 pub struct Step {
     pub report: Report,
     pub fate: Fate,
 }
 
 // The report after all files, what came of each, and how many were not taken.
-#[derive(Drop)]
+#[derive(Clone, Copy)]
 pub struct Month {
     pub report: Report,
     pub fates: [Fate; MOST_FILES],

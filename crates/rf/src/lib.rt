@@ -7,7 +7,7 @@ ghost use Rattle.rf.specs.Rf.{start_of, stops_of, roots_of, next_of, round_of, c
 use carlson::{Outcome, larger};
 
 // What a round of RF, RD or RJ takes of its arguments: their roots, and L = √x√y + √y√z + √z√x.
-#[derive(Drop)]
+#[derive(Clone, Copy)]
 pub struct Roots {
     pub x: f64,
     pub y: f64,
@@ -28,7 +28,7 @@ pub fn roots_of(x: f64, y: f64, z: f64) -> Roots
 }
 
 // Three arguments, their mean, and the distance that the stop test reads. RD and RJ of the same arguments make RF's rounds with their own, which saves its roots.
-#[derive(Drop)]
+#[derive(Clone, Copy)]
 pub struct State {
     pub x: f64,
     pub y: f64,

@@ -12,7 +12,7 @@ use carlson::{Both, Outcome, fifth, larger, trusted};
 use rf::{Roots, roots_of};
 
 // As RD's, and as open; `inner` says whether every RC so far was met, `inside` counts their rounds.
-#[derive(Drop)]
+#[derive(Clone, Copy)]
 pub struct State {
     pub x: f64,
     pub y: f64,

@@ -10,14 +10,14 @@ ghost use Rattle.root.specs.Root.{root_of, whole_root};
 ghost use Rattle.root.specs.Steps.{Tried, Moving, Sized, Aligned, Readied};
 
 // The rest, and the trial for the next digit.
-#[derive(Drop)]
+#[derive(Clone, Copy)]
 struct Trial {
     rest: u64,
     next: u64,
 }
 
 // What that digit adds to the trial: 3s for a 1, and for a 0 less than nothing, -s, kept as 2^64 - s. It is the same for every number.
-#[derive(Drop)]
+#[derive(Clone, Copy)]
 struct Moves {
     up: u64,
     down: u64,
@@ -103,7 +103,7 @@ fn digits(radicand: u64) -> u64
     last_digit(p)
 }
 
-#[derive(Drop)]
+#[derive(Clone, Copy)]
 struct ThreeDigits {
     x: u64,
     y: u64,
@@ -138,7 +138,7 @@ fn digits_of_three(x: u64, y: u64, z: u64) -> ThreeDigits
 const SPARE: u64 = 1074 - 51;
 
 // A float's digits moved up to 56 or 57 places, so that the rest of its exponent is even.
-#[derive(Drop)]
+#[derive(Clone, Copy)]
 struct Radicand {
     digits: u64,
     half: u64,
@@ -165,7 +165,7 @@ fn aligned(sig: u64, exp: u64) -> Radicand
 
 // What the digits are worked out of, and what becomes of them. Where x has no digits of a root (it is not plain) the root is
 // `value`, and any radicand may stand for its own.
-#[derive(Drop)]
+#[derive(Clone, Copy)]
 struct Ready {
     plain: bool,
     value: f64,
@@ -229,7 +229,7 @@ pub fn root(x: f64) -> f64
     r.value
 }
 
-#[derive(Drop)]
+#[derive(Clone, Copy)]
 pub struct ThreeRoots {
     pub x: f64,
     pub y: f64,

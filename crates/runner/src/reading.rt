@@ -11,7 +11,7 @@ use line::LONGEST;
 use page::LARGEST;
 
 // What the reads so far came to, whether there may be more, and whether the last one failed.
-#[derive(Drop)]
+#[derive(Clone, Copy)]
 pub struct Turn {
     pub st: State,
     pub more: bool,

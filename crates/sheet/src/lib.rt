@@ -11,7 +11,7 @@ mod row;
 pub use functions::{counted, evaluate, used};
 
 // What is entered in a row: a function's number, its arguments' bit patterns, and how often the leg was driven.
-#[derive(Drop)]
+#[derive(Clone, Copy)]
 pub struct Entry {
     pub function: u8,
     pub a: u64,

@@ -7,7 +7,7 @@ mod rounding;
 
 pub use rounding::Signed;
 
-#[derive(Drop)]
+#[derive(Clone, Copy)]
 pub struct Total {
     pub limbs: [u64; 34],
 }

@@ -9,14 +9,14 @@ ghost use Rattle.std.specs.Prelude.{◌≡◌, ◌+◌, ◌*◌, ◌^◌, ◌<�
 ghost use Rattle.total.specs.Total.{val, limbs_of, complement};
 ghost use Rattle.total.specs.Carry.{Balance, W};
 
-#[derive(Drop)]
+#[derive(Clone, Copy)]
 pub struct Limb {
     pub limb: u64,
     pub carry: u64,
 }
 
 // Three limbs, least first.
-#[derive(Drop)]
+#[derive(Clone, Copy)]
 pub struct Words {
     pub low: u64,
     pub middle: u64,

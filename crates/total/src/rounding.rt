@@ -76,7 +76,7 @@ pub(crate) fn round_size(negative: bool, limbs: [u64; 34]) -> f64
 }
 
 // The sign of a number and its size.
-#[derive(Drop)]
+#[derive(Clone, Copy)]
 pub struct Signed {
     pub negative: bool,
     pub limbs: [u64; 34],

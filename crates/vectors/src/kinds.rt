@@ -43,7 +43,7 @@ pub(crate) fn words(kind: u8) -> usize
 
 // Whether a line's answer comes out again, and how much of its bound the answer uses, in millionths: less than
 // this many, and 0 where it uses none or bits are compared.
-#[derive(Drop)]
+#[derive(Clone, Copy)]
 pub(crate) struct Shown {
     pub same: bool,
     pub part: u64,

@@ -6,7 +6,7 @@ use libc::STDOUT_FILENO;
 
 // How many lines, how many of them differ, the number of the first that does, and the largest part of its bound
 // that an answer uses.
-#[derive(Drop)]
+#[derive(Clone, Copy)]
 pub(crate) struct Tally {
     pub lines: u64,
     pub differ: u64,

@@ -14,15 +14,16 @@ TOKEN = re.compile(r"[^\s(){}.,;`\"\[\]]+")
 
 
 def lent_names():
-    """Of each function of the project what it is lent to write, by the function's name: `self` and each parameter that is a `&mut`."""
+    """Of each function of the project what it is lent to write, by its crate and name: `self` and each parameter that is a `&mut`."""
     out = {}
     for folder, inner, names in os.walk(os.path.join(ROOT, 'crates')):
         inner[:] = [i for i in inner if i != 'out']
+        crate = os.path.relpath(folder, os.path.join(ROOT, 'crates')).split(os.sep)[0]
         for name in names:
             if not name.endswith('.rt'): continue
             with open(os.path.join(folder, name), encoding='utf-8') as f: text = f.read()
             for m in re.finditer(r'\bfn (\w+)(?:<[^>]*>)?\(([^)]*)\)', text):
-                out[m[1]] = ['self' for _ in re.findall(r'&mut self\b', m[2])] + re.findall(r'(\w+): &mut ', m[2])
+                out[crate, m[1]] = ['self' for _ in re.findall(r'&mut self\b', m[2])] + re.findall(r'(\w+): &mut ', m[2])
     return out
 
 
@@ -72,7 +73,14 @@ class Walk:
         for place, c in zip(entry['places'], entry['clauses']):
             key = same(place[2][0])
             if c and c.get('fields'): self.clauses[key] = c['fields']
-            if place[3]: self.lent[key] = LENT.get(place[3].split('::')[-1], [])
+            if place[3]: self.lent[key] = LENT.get((place[3].split('::')[0], place[3].split('::')[-1]), [])
+        # an argument that had no name, and what an arm binds
+        self.renamed = {}
+        for old, new in entry['args']: self.renamed[tuple(same(w.lstrip('.')) for w in old.split())] = [w.lstrip('.') for w in new.split()]
+        for arm in entry['arms']:
+            if not arm: continue
+            for name, place, inner in arm[2]:
+                if inner: self.renamed[(same(place), *inner)] = [arm[0], name]
         pre = entry.get('pre')
         self.pre = pre['fields'] if isinstance(pre, dict) and pre.get('fields') else pre if isinstance(pre, list) else []
 
@@ -100,6 +108,9 @@ class Walk:
             parts, befores = parts[1:], befores + 1
         head = [] if flat else ['before'] * befores
         if not parts: return head
+        plain = [same(w) for w in parts]
+        for n in range(len(plain), 0, -1):
+            if tuple(plain[:n]) in self.renamed: return self.renamed[tuple(plain[:n])] + parts[n:]
         key, rest = same(parts[0]), parts[1:]
         if key in self.fields:
             if len(rest) > 1 and rest[0] == 'new' and rest[1].isdigit():
@@ -193,7 +204,7 @@ class Walk:
         new = self.need(old)
         if new is None:
             self.note(f'no goal for {name} : {old}')
-            return ['-- LEFT'] + block
+            return []
         i = next(k for k, l in enumerate(block) if k and re.match(rf'{re.escape(name)}\b', l))
         clause = '\n'.join(block[i:])
         m = re.match(rf'{re.escape(name)}((?: [^\s=]+)*) =(?=\s)', clause)
@@ -203,7 +214,7 @@ class Walk:
         args, body = m[1].split(), clause[m.end():]
         # what only searches is tried by itself
         plain = ' '.join(body.split())
-        if plain in ('search rules', 'omega arith', 'tt', 'refl'): return []
+        if plain in ('search rules', 'omega arith'): return []
         c = args[0] if args else 'c'
         names = self.states(body, [c])
         body = self.calls(body, names, lambda place: f'(goal.at.{new} {c}).{place}')
@@ -214,7 +225,9 @@ class Walk:
             body = re.sub(rf'let {re.escape(n)} = {re.escape(c)} in\s*', '', body)
             body = PATH.sub(lambda t, n=n: c + t[2] if t[1] == n else t[0], body)
             body = re.sub(rf'let {re.escape(n)} = [^\s.]+ in\s*', lambda t: '' if t[0].split()[3] in names else t[0], body)
-        return [f'pub {new} : goal.{new}'] + block[1:i] + [f'{new} {c} ={body}']
+        more = args[1:]
+        if more and 'requires' in old: more = more[1:]
+        return [f'pub {new} : goal.{new}'] + block[1:i] + [' '.join([new, c, *more]) + f' ={body}']
 
     def calls(self, body, names, state):
         """A helper's argument is the record of its place."""

@@ -1,8 +1,8 @@
 -- `divided` meets its contract: long division by eight binary digits at a time (`Division`).
 use Rattle.std.proofs.Common.{◌≡◌, ℕ, ◌*◌, ◌^◌, ◌<◌, ◌≤◌, mod-lt, arith}
-use Rattle.bits.proofs.Division.{digit_small, quotient_small, quotient_turn, quotient_done}
-use Rattle.bits.proofs.wide.divided.Goals as goal
-use Rattle.bits.proofs.wide.divided.Goals.{In-loop-i}
+use Rattle.arctangent.proofs.Division.{digit_small, quotient_small, quotient_turn, quotient_done}
+use Rattle.arctangent.proofs.quotient.divided.Goals as goal
+use Rattle.arctangent.proofs.quotient.divided.Goals.{In-loop-i}
 
 pub loop-i-init : goal.loop-i-init
 loop-i-init c = (c.requires.0, omega arith, omega arith)

@@ -2,8 +2,8 @@
 use Rattle.std.proofs.Common.{◌*◌, ◌/◌, ◌^◌, ltb, refl, ltb→lt}
 use Rattle.laws.specs.Ladder.{held, passed}
 use Rattle.laws.specs.laws.Flags.{holds, both_true}
-use Rattle.bits.specs.Wide.{quotient_of}
-use Rattle.bits.proofs.wide.quotient.Goals as goal
+use Rattle.arctangent.specs.Quotient.{quotient_of}
+use Rattle.arctangent.proofs.quotient.quotient.Goals as goal
 
 pub divided-requires : goal.divided-requires
 divided-requires c =

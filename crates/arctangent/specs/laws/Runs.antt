@@ -3,7 +3,7 @@ use Rattle.std.specs.Prelude.{◌≡◌}
 use Rattle.std.proofs.Common.{sym, ap, ◌∙◌, mul-add, add-mul, mul_assoc, mul_comm, mul_left_comm, mul-pos, mul-le-mul, mul-le-mul_right, mul-le-mul_left, le_trans, le_of_lt, zero-lt-suc, div-mul-le_self, div-le_self, arith, lit≤, pow-add, pow_pos}
 use Prim.Native.Nat.{ℕ, zero, suc, ◌+◌, ◌*◌, ◌/◌, ◌^◌, ◌≤◌, ◌<◌, zero-le}
 use Rattle.std.proofs.Math.Nat.{le_of_mul-le-mul_left, lt-div-mul-add, div-le_of_le-mul}
-use Rattle.bounds.specs.Sums.{powers, run_of}
+use Rattle.arctangent.specs.Sums.{powers, run_of}
 use Rattle.bounds.specs.laws.Held.{Is}
 
 ruleset sorted = (mul-add, add-mul, mul_assoc, mul_comm, mul_left_comm)

@@ -41,7 +41,9 @@ def functions(crates):
     for crate in crates:
         for _, text in files(crate, 'src', '.rt'):
             text = re.sub(r'//.*', '', text)
-            imports = {m[2]: m[1].split('::')[0] for m in re.finditer(r'^(?:pub )?use ([\w:]+)::(\w+);', text, re.M)}
+            imports = {}
+            for m in re.finditer(r'^(?:pub )?use ([\w:]+)::(?:(\w+)|\{([^}]*)\});', text, re.M):
+                for name in (m[2] or m[3]).split(','): imports[name.strip()] = m[1].split('::')[0]
             kind = None
             for part in re.split(r'^(?=(?:impl |    )?(?:impl|(?:#\[.*\]\n)?(?:pub(?:\(crate\))? )?(?:extern "C" )?fn) )', text, flags=re.M):
                 m = re.match(r'impl (\w+)', part)
@@ -115,7 +117,7 @@ def definitions(text):
     return found, inner
 
 
-USE = re.compile(r'^(?:pub |ghost )?use Rattle·(\w+?)(?:·specs|·proofs)?\.((?:specs|proofs)\.[^\s{;]+?)(?:\.\{(.*)\}| as (\S+?))?;?$', re.M)
+USE = re.compile(r'^(?:pub |ghost )?use Rattle\.(\w+?)\.((?:specs|proofs)\.[^\s{;]+?)(?:\.\{([^}]*)\}| as (\S+?))?;?$', re.M)
 
 
 def unused_laws(crates):
@@ -135,11 +137,13 @@ def unused_laws(crates):
                         whole[m[4]] = place
                 if ending == '.rt':
                     todo += [(place, name) for place, name in named.values()]
+                    # a lemma that an attribute gives the check
+                    for m in re.finditer(r'\bcrate::((?:specs|proofs)(?:::\w+)+)::(\w+)', text): todo.append(((crate, m[1].replace('::', '.')), m[2]))
                     continue
                 names[crate, inside] = named, whole
                 files_of[crate, inside] = definitions(text)
     for place, (found, _) in files_of.items():
-        if place[1].endswith('.Proof') or place in PROMISED:
+        if place[1].endswith(('.Answers', '.Invariants', '.Proof')) or place in PROMISED:
             todo += [(place, name) for name in found]
     seen = set()
     while todo:
@@ -153,7 +157,7 @@ def unused_laws(crates):
         seen.add((place, name))
         named, whole = names[place]
         words = found[name]
-        words = words | {n for n in (*found, *named) if '_' in n and set(n.split('_')) - {''} <= words}
+        words = words | {n for n in (*found, *named) if '◌' in n and set(n.split('◌')) - {''} <= words}
         for word in words:
             todo.append((place, word))
             if word in named:

@@ -1,4 +1,6 @@
 // What goes into an evaluation and what comes out of it (01, "Taken from the crate, and added").
+#![tactic(auto)]
+
 ghost use Rattle.std.specs.Prelude.{◌≡◌};
 ghost use Rattle.answer.specs.Answer.{refusal_of, first_of, second_of, value_of};
 ghost use Rattle.answer.specs.Numbers.{stored as Numbers·stored};

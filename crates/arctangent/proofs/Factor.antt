@@ -6,11 +6,12 @@ use native.Mathlib.Omega.{arith}
 use lib.Dec.{lit≤}
 use lib.Pow.{pow_pos}
 use Rattle.bounds.specs.Fractions.{Fraction}
-use Rattle.bounds.specs.Sums.{powers, run_of}
+use Rattle.arctangent.specs.Sums.{powers, run_of}
 use Rattle.bounds.specs.laws.Held.{Held, Is, carry}
 use Rattle.bounds.specs.laws.Squares.{cut_low, cut_high, square-low, square-high}
-use Rattle.bounds.specs.laws.Powers.{pow-one, pow-two, pow-two_more}
-use Rattle.bounds.specs.laws.Runs.{bottom, top, bottom_pos, nested, run-le, run-low, run-high}
+use Rattle.bounds.specs.laws.Powers.{pow-one, pow-two_more}
+use Rattle.arctangent.specs.laws.Powers.{pow-two}
+use Rattle.arctangent.specs.laws.Runs.{bottom, top, bottom_pos, nested, run-le, run-low, run-high}
 use Rattle.arctangent.specs.Arctangent.{factor_of, sum_of}
 
 ruleset sorted = (mul-add, add-mul, mul_assoc, mul_comm, mul_left_comm)

@@ -4,3 +4,4 @@ pub mod Sides
 pub mod Near
 pub mod Same
 pub mod Reaching
+pub mod Division

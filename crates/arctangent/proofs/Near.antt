@@ -21,7 +21,7 @@ use Rattle.answer.specs.declared.Answer.{Answer}
 use Rattle.answer.specs.Answer.{OneThat}
 use Rattle.bounds.specs.Fractions.{Difference, ◌over◌}
 use Rattle.bounds.specs.Close.{distance_of, Close}
-use Rattle.bounds.specs.Sums.{run_of}
+use Rattle.arctangent.specs.Sums.{run_of}
 use Rattle.bounds.specs.laws.Held.{Held}
 use Rattle.bounds.specs.laws.Rounds.{in_range, closes}
 use Rattle.arctangent.specs.Series.{◌and◌, A, quarter, arctangent, allowed, ArctangentWithin}

@@ -16,9 +16,9 @@ use Rattle.laws.specs.Arithmetic.{+0}
 use Rattle.laws.specs.Ladder.{held, passed}
 use Rattle.answer.specs.declared.Answer.TheVariants.{One}
 use Rattle.bits.specs.Parts.{PartsOf}
-use Rattle.bits.specs.Wide.{quotient_of}
-use Rattle.bits.specs.laws.Wide.{quotient_is}
-use Rattle.bounds.specs.Sums.{run_of}
+use Rattle.arctangent.specs.Quotient.{quotient_of}
+use Rattle.arctangent.specs.laws.Quotients.{quotient_is}
+use Rattle.arctangent.specs.Sums.{run_of}
 use Rattle.arctangent.specs.Arctangent.{sides, factor_of, sum_of, next_to, half_sides, quarter_sides, right_sides, two_sides, sides_at, arctangent_at, arctangent_of}
 use Rattle.arctangent.specs.declared.sums.Sides.{Sides}
 use Rattle.arctangent.proofs.Factor.{fourth_le, t-le}

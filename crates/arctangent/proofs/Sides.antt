@@ -6,7 +6,7 @@ use native.Mathlib.Nat.{add-zero, le_refl, le_of_eq, zero-mul, zero-div}
 use native.Mathlib.Omega.{arith}
 use lib.Dec.{T, ltb, ltb→lt, nltb→le, lit≤}
 use Rattle.bounds.specs.Fractions.{Fraction, Difference, ◌⊞◌}
-use Rattle.bounds.specs.Sums.{powers}
+use Rattle.arctangent.specs.Sums.{powers}
 use Rattle.bounds.specs.laws.Held.{Held, wider, sum-held}
 use Rattle.arctangent.specs.Series.{◌and◌, ◌without◌, A, signed_a, half, quarter, arctangent}
 use Rattle.arctangent.specs.Arctangent.{sides, factor_of, sum_of, next_to, half_sides, quarter_sides, right_sides, two_sides, sides_at}

@@ -5,7 +5,7 @@ use Rattle.std.specs.Float.Ieee.{up, down, round}
 use Rattle.laws.specs.Ladder.{when◌gives◌else◌}
 use Rattle.answer.specs.declared.Answer.{Answer}
 use Rattle.answer.specs.declared.Answer.TheVariants.{One, Refused}
-use Rattle.bounds.specs.Sums.{run_of}
+use Rattle.arctangent.specs.Sums.{run_of}
 use Rattle.arctangent.specs.declared.sums.Sides.{Sides}
 
 -- what a sum adds and what it takes away, apart, so that each cut only loses

@@ -8,7 +8,7 @@ use Rattle.answer.specs.declared.Answer.TheVariants.{Refused}
 use Rattle.answer.specs.Answer.{OneThat}
 use Rattle.bounds.specs.Fractions.{Fraction, Difference, ◌over◌, ◌⊞◌}
 use Rattle.bounds.specs.Close.{Close}
-use Rattle.bounds.specs.Sums.{powers}
+use Rattle.arctangent.specs.Sums.{powers}
 
 infixl 60 ◌and◌
 infixl 60 ◌without◌

@@ -3,7 +3,7 @@ ghost use Rattle.std.specs.Prelude.{◌≡◌, ◌*◌, ◌/◌, ◌^◌, ◌≤
 ghost use Rattle.arctangent.specs.Arctangent.{sides_at};
 
 use super::sums::{Sides, next_to, sum};
-use bits::quotient;
+use crate::quotient::quotient;
 
 // A(1/3) + A(1/7), which stands for arctan 1/2: what it adds and what it takes away.
 const HALF_ADDED: u64 = 4399835472195684314;

@@ -13,6 +13,7 @@ ghost use Rattle.arctangent.specs.Arctangent.{arctangent_at, arctangent_of};
 ghost use Rattle.arctangent.specs.Series.{ArctangentWithin};
 
 mod argument;
+mod quotient;
 mod sums;
 
 use answer::Answer;

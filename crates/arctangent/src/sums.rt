@@ -1,9 +1,9 @@
 // A(t) = t - t^3/3 + t^5/5 - .. + t^41/41, which stands for arctan t, in units of 2^-63; t counts in 2^-64.
 ghost use Rattle.std.specs.Prelude.{◌≡◌, ◌-◌, ◌*◌, ◌/◌, ◌^◌, ◌≤◌, ◌<◌};
-ghost use Rattle.bounds.specs.Sums.{run_of};
+ghost use Rattle.arctangent.specs.Sums.{run_of};
 ghost use Rattle.arctangent.specs.Arctangent.{sides, factor_of, next_to};
 
-use bits::{quotient, upper};
+use crate::quotient::{quotient, upper};
 
 // What a sum adds and what it takes away.
 #[derive(Clone, Copy)]

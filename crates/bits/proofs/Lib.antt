@@ -1,7 +1,6 @@
 -- Arguments that the functions' proofs cite.
 pub mod Columns
 pub mod Carries
-pub mod Division
 pub mod Reading
 pub mod Leading
 pub mod Limbs

@@ -1,6 +1,5 @@
--- Two limbs where there is room, numbers moved between units, patterns and values one to one, the pattern of a value's digits and place, and the one rounding: what is kept of a number, and that it is enough.
+-- Two limbs where there is room, patterns and values one to one, the pattern of a value's digits and place, and the one rounding: what is kept of a number, and that it is enough.
 pub mod Wide
-pub mod Units
 pub mod Patterns
 pub mod Packing
 pub mod Keeping

@@ -1,6 +1,6 @@
-// Numbers of two limbs, where no type is that wide: product, sum, difference, order and quotient.
-ghost use Rattle.std.specs.Prelude.{◌≡◌, ◌+◌, ◌-◌, ◌*◌, ◌/◌, ◌%◌, ◌^◌, ◌<◌, nat_lt};
-ghost use Rattle.bits.specs.Wide.{Halves, val, quotient_of};
+// Numbers of two limbs, where no type is that wide: product, sum, difference and order.
+ghost use Rattle.std.specs.Prelude.{◌≡◌, ◌+◌, ◌-◌, ◌*◌, ◌%◌, ◌^◌, nat_lt};
+ghost use Rattle.bits.specs.Wide.{Halves, val};
 
 // high * 2^64 + low
 #[derive(Clone, Copy)]
@@ -24,14 +24,6 @@ pub fn product(a: u64, b: u64) -> Wide
         high: a1 * b1 + (first >> 32) + (second >> 32),
         low: ((second % 0x1_0000_0000) << 32) + low % 0x1_0000_0000,
     }
-}
-
-// The upper limb alone, in a function of its own: the compiler then makes it one multiplication.
-pub fn upper(a: u64, b: u64) -> u64
-    ensures { result ≡ a * b / 2 ^ 64 }
-{
-    let w = product(a, b);
-    w.high
 }
 
 // A lower limb that came out smaller than a term has wrapped, and so carries.
@@ -76,31 +68,4 @@ pub fn less(a: Wide, b: Wide) -> bool
         return a.low < b.low;
     }
     a.high < b.high
-}
-
-// Long division, eight binary digits at a time.
-fn divided(a: u64, b: u64) -> u64
-    requires { (a < b) × (b < 2 ^ 56) }
-    ensures { result ≡ a * 2 ^ 64 / b }
-{
-    let mut q: u64 = 0;
-    let mut rest = a;
-    let mut i: u64 = 0;
-    while i < 8 {
-        let next = rest * 256;
-        q = q * 256 + next / b;
-        rest = next % b;
-        i += 1;
-    }
-    q
-}
-
-// a * 2^64 / b, for a < b < 2^56.
-pub fn quotient(a: u64, b: u64) -> u64
-    ensures { result ≡ quotient_of a b }
-{
-    if (a < b) & (b < 0x100_0000_0000_0000) {
-        return divided(a, b);
-    }
-    0
 }

@@ -1,5 +1,5 @@
 -- The number of the first limbs, and what one limb more makes of it. Assumes nothing.
-use Rattle.std.proofs.Common.{◌≡◌, ℕ, zero, suc, ◌+◌, ◌-◌, ◌*◌, ◌<◌, ◌≤◌, List, [], ◌∷◌, length, get_or, take, set, sym, refl, ap, ◌∙◌, le_of_suc-le-suc, not-suc-le-zero, add-zero, lt_irrefl, mul-zero, mul-add, arith, take_all}
+use Rattle.std.proofs.Common.{◌≡◌, ℕ, zero, suc, ◌+◌, ◌*◌, ◌<◌, ◌≤◌, List, [], ◌∷◌, length, get_or, take, set, sym, refl, ap, ◌∙◌, le_of_suc-le-suc, not-suc-le-zero, add-zero, lt_irrefl, mul-zero, mul-add, arith, take_all}
 use Rattle.total.specs.Total.{val, N}
 use Rattle.total.specs.Carry.{W}
 use Rattle.total.specs.laws.Limbs.{W-34, W-next, val_next, val-set_next}

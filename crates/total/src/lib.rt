@@ -1,4 +1,6 @@
 // The exact total of a sheet: f64s added and taken away with no rounding, and rounded once when it is read.
+#![tactic(auto)]
+
 ghost use Rattle.std.specs.Prelude.{◌≡◌};
 ghost use Rattle.total.specs.Total.{val, limbs_of, add_of, take_of, size_of_total, signed_of, round_total};
 

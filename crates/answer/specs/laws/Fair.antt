@@ -57,6 +57,7 @@ fair_sound may (Refused n) l h = listed (5 ∷ 6 ∷ may.tests) n l (regroup (eq
     regroup : (a b c : Bool) → T (a || b || c) → T (a || (b || c))
     regroup true b c t = tt
     regroup false b c t = t
+fair_sound may (Pair _ _) l h = elim h [ ]
 
 -- ---- how answers are made
 pub refused : (may : May) (n : ℕ) → T (eqb 5 n || eqb 6 n || among may.tests n) → Fair may (Refused n)

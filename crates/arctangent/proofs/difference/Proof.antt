@@ -3,7 +3,7 @@ use mathlib.Core.Path.{◌∙◌}
 use Prim.Native.Nat.{◌-◌}
 use lib.Dec.{lit≤}
 use borrow.Author.Rules.{rules}
-use Rattle.bits.specs.laws.Units.{limb_rounded}
+use Rattle.arctangent.specs.laws.Units.{limb_rounded}
 use Rattle.arctangent.proofs.difference.Statement.{statement}
 use Rattle.arctangent.proofs.difference.Tie as tie
 

@@ -5,7 +5,7 @@ use native.Mathlib.Nat.{lt_of_lt_of_le, le_of_lt}
 use lib.Dec.{lit≤}
 use lib.Pow.{pow_pos}
 use borrow.Author.Rules.{rules}
-use Rattle.bits.specs.laws.Units.{product_rounded}
+use Rattle.arctangent.specs.laws.Units.{product_rounded}
 use Rattle.arctangent.specs.declared.sums.Sides.{Sides}
 use Rattle.arctangent.proofs.Factor.{taken_added}
 use Rattle.arctangent.proofs.Sides.{sides_ordered}

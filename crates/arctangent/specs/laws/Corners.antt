@@ -4,7 +4,7 @@ use Rattle.std.specs.Float.{inf, binary64}
 use Rattle.std.specs.Float.Ieee.{round, of_bits}
 use Rattle.laws.specs.Arithmetic.{+0, 1·0}
 use Rattle.answer.specs.declared.Answer.TheVariants.{One}
-use Rattle.bounds.specs.Sums.{run_of}
+use Rattle.arctangent.specs.Sums.{run_of}
 use Rattle.arctangent.specs.Arctangent.{factor_of, sum_of, next_to, sides_at, arctangent_at, arctangent_of}
 
 pub of_zero : arctangent_of +0 ≡ One +0

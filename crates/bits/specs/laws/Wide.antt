@@ -1,9 +1,8 @@
--- Two limbs: `plus` and `minus` are modulo 2^128, which drops out where there is room; and where `quotient` is one. Assumes nothing.
-use Rattle.std.specs.Prelude.{◌≡◌, ℕ, ◌+◌, ◌-◌, ◌*◌, ◌/◌, ◌%◌, ◌^◌, ◌<◌, ◌≤◌, Bool, cond, ◌&&◌, nat_lt}
-use Rattle.std.proofs.Common.{sym, ap, ap₂, ◌∙◌, subst, mod-eq_of_lt, arith, lt→ltb}
+-- Two limbs: `plus` and `minus` are modulo 2^128, which drops out where there is room. Assumes nothing.
+use Rattle.std.specs.Prelude.{◌≡◌, ℕ, ◌+◌, ◌-◌, ◌*◌, ◌/◌, ◌%◌, ◌^◌, ◌<◌, ◌≤◌}
+use Rattle.std.proofs.Common.{sym, ap, ◌∙◌, subst, mod-eq_of_lt, arith}
 use Rattle.std.proofs.Math.Arith.{digits_lt, digits_div, digits_mod}
-use Rattle.std.specs.Float.Ieee.Bits.{is_true}
-use Rattle.bits.specs.Wide.{val, Halves, quotient_of}
+use Rattle.bits.specs.Wide.{val, Halves}
 
 pub val-lt : (h l : ℕ) → h < 2 ^ 64 → l < 2 ^ 64 → val h l < 2 ^ 128
 val-lt h l a b = digits_lt a b
@@ -32,7 +31,3 @@ difference_whole a b h l g k = subst (λ (x : ℕ). Halves x h l) (dropped (2 ^ 
 
     dropped : (M : ℕ) → a < M → (M + a - b) % M ≡ a - b
     dropped M h = ap (λ (x : ℕ). x % M) (moved M) ∙ digits_mod 1 (less a b M h)
-
-pub quotient_is : (a b : ℕ) → a < b → b < 2 ^ 56 → quotient_of a b ≡ a * 2 ^ 64 / b
-unfolding quotient_of
-quotient_is a b h k = ap₂ (λ (x y : Bool). cond (x && y) (a * 2 ^ 64 / b) 0) (is_true (nat_lt a b) (lt→ltb a b h)) (is_true (nat_lt b (2 ^ 56)) (lt→ltb b (2 ^ 56) k))

@@ -6,7 +6,7 @@ use Rattle.std.proofs.Math.Bool.{true, false, not}
 use Rattle.std.proofs.Math.Nat.{le_of_eq, le_of_mul-le-mul_left, le_of_lt}
 use Rattle.std.proofs.Math.Dec.{T, eqb, nleb→lt}
 use Rattle.std.specs.Float.{nan, inf, fin}
-use Rattle.std.specs.Float.Ieee.{binary64, low, up, down, unlike, round, neg, lt, eq, le}
+use Rattle.std.specs.Float.Ieee.{binary64, up, down, unlike, round, neg, lt, eq, le}
 use Rattle.std.specs.Float.Ieee.Exact.{HasValue, round_exact}
 use Rattle.std.specs.Float.Ieee.Order.{round_mono}
 use Rattle.std.specs.Float.Ieee.Scale.{grid, normal_of_fraction}

@@ -1,5 +1,5 @@
 -- Limbs and the number that they stand for: each has one of the other, modulo N. Assumes nothing.
-use Rattle.std.specs.Prelude.{◌≡◌, ℕ, zero, suc, ◌+◌, ◌-◌, ◌*◌, ◌/◌, ◌%◌, ◌^◌, ◌<◌, List, [], ◌∷◌, length, take, slice_index, slice_set, refl}
+use Rattle.std.specs.Prelude.{◌≡◌, ℕ, zero, suc, ◌+◌, ◌*◌, ◌/◌, ◌%◌, ◌^◌, ◌<◌, List, [], ◌∷◌, length, take, slice_index, slice_set, refl}
 use Rattle.std.proofs.Common.{ap, ◌∙◌, sym, subst, mod-lt, mod-eq_of_lt, zero-add, mul_comm, mul-add, mul_assoc, le_of_suc-le-suc, not-suc-le-zero, add-one, arith, pow_pos, pow-add, lit<, length-set, get_or-set_same}
 use Rattle.std.proofs.Math.Nat.{add-mul-mod_self_left, add-mul-div_left, div-eq_of_lt, mod-one}
 use Rattle.std.proofs.lemmas.Nat.{mod-pow-add}

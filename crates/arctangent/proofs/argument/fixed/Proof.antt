@@ -3,7 +3,7 @@ use mathlib.Core.Path.{refl}
 use native.Mathlib.Omega.{arith}
 use borrow.Author.Rules.{rules}
 use lib.Dec.{lit≤}
-use Rattle.bits.specs.laws.Units.{moved_up, moved_down, moved_out}
+use Rattle.arctangent.specs.laws.Units.{moved_up, moved_down, moved_out}
 use Rattle.arctangent.proofs.argument.fixed.Statement.{statement}
 use Rattle.arctangent.proofs.argument.fixed.Tie as tie
 

@@ -5,8 +5,8 @@ use native.Mathlib.Nat.{le_refl}
 use native.Mathlib.Omega.{arith}
 use borrow.Author.Rules.{rules}
 use mir.Facts.{Fits-le, Fits-lit}
-use Rattle.bounds.specs.Sums.{run_of}
-use Rattle.bounds.specs.laws.Runs.{run-le}
+use Rattle.arctangent.specs.Sums.{run_of}
+use Rattle.arctangent.specs.laws.Runs.{run-le}
 use Rattle.arctangent.proofs.Reaching.{run_turn}
 use Rattle.arctangent.proofs.sums.run.Statement.{statement}
 use Rattle.arctangent.proofs.sums.run.Tie as tie

@@ -3,7 +3,7 @@
 
     oracle/errors.py [POINTS [CSV]]      POINTS a function, 6,000 by default; writes docs/pictures/errors.csv, or the file that is named
 
-Needs mpmath, rustc, g++, Boost.Math (Debian: libboost-math-dev) and the static library (`rt staticlib shuttlemint`). Each answer is held against mpmath's
+Needs mpmath, rustc, g++, Boost.Math (Debian: libboost-math-dev) and the static library (`examples/prove shuttlemint`). Each answer is held against mpmath's
 at 40 digits or more; the unit is 2^(e-52) where 2^e is the power of two at or below the reference's size. The answers are those of oracle/error_answers.rs.
 
 Boost takes the modulus k and not m = k²: above 0 every m is the square of a k of 26 bits, so both are exact and no contestant has a rounded argument.

@@ -1,7 +1,7 @@
 #!/usr/bin/env python3
 """month_bench.py [PASSES [FOLDER]]: the time and the memory that legmonth takes for a month of 400 sheets of 1,024 rows, and for 1, 10 and 100 of them.
 
-  rt check legmonth             builds target/bin/legmonth
+  examples/prove legmonth       builds target/bin/legmonth
   oracle/month_bench.py         prints the best of PASSES (5) runs, and the peak memory; the programs are those of FOLDER (target/bin)
 
 The sheets are made in a temporary folder, all different, of rows of every class with times; the report is compared with the model's."""

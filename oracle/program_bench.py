@@ -1,7 +1,7 @@
 #!/usr/bin/env python3
 """program_bench.py: the program legsheet's speed, memory and stack.
 
-  rt check legsheet                     builds target/bin/legsheet
+  examples/prove legsheet               builds target/bin/legsheet
   oracle/run program_twin < /dev/null   writes the same program in Rust: oracle/target/twin.rs and program_twin.rs
   oracle/program_bench.py [PASSES]      prints the measurements; the best of PASSES (15) counts
 

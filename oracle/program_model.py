@@ -8,7 +8,7 @@ and only such arguments are evaluated as documents 01 and 02 name the answer of,
   oracle/program_model.py --runs         writes faces/program/runs: runs of the programs that read and write sheet files (program_cases.py and hextext_cases.py; their models are files_model.py)
   oracle/program_model.py --check        says whether both are as it would write them
   oracle/program_model.py --run          the model as a program: standard input to standard output
-  oracle/program_model.py --compare N    N inputs, most of them damaged somewhere, through target/bin/legsheet (`rt check legsheet`) and through the model
+  oracle/program_model.py --compare N    N inputs, most of them damaged somewhere, through target/bin/legsheet (`examples/prove legsheet`) and through the model
   oracle/program_model.py --compare-files N [SEED [FOLDER [PROGRAM..]]]   N random runs of the programs, those in FOLDER (target/bin), most of them over damaged sheets
 """
 import math, os, random, re, shutil, struct, subprocess, sys

@@ -1,6 +1,6 @@
 #!/usr/bin/env python3
 """oracle/python_bench.py [PASSES]: what an element of a list and of a NumPy array costs over the Python module: `ellipe` for m from 0 to 0.9, the best of PASSES passes (60) over 2,000 elements.
-Wanted first: rt staticlib shuttlemint && faces/python/build; NumPy (README)."""
+Wanted first: examples/prove shuttlemint && faces/python/build; NumPy (README)."""
 import os, sys, time
 
 import numpy

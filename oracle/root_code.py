@@ -1,7 +1,7 @@
 #!/usr/bin/env python3
 """oracle/root_code.py [ARCHIVE]: looks at the root as written and as compiled (docs/changes/04-root.md).
 In crates/root/src no `*`, `/` or `%` stands outside comments and contracts. In ARCHIVE (target/staticlib/libshuttlemint.a, which
-`rt staticlib shuttlemint` writes) the root has no multiplication, no division, no call, and one loop with no branch in it. The
+`examples/prove shuttlemint` writes) the root has no multiplication, no division, no call, and one loop with no branch in it. The
 loop of three roots at once, in whatever function it was put, has none of these either, and touches no memory.
 It needs objdump, one for x86-64; where there is none, on another processor, it says so. Its last line says what it saw; it ends
 with status 1 where a rule is broken."""

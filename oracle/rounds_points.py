@@ -1,7 +1,7 @@
 #!/usr/bin/env python3
 """oracle/rounds_points.py [COUNT [SEED]]: the rounds that `sm_rounds` gives, against a count of its own by docs/STEPS.md.
 COUNT points each of ellippi, ellipeinc and ellipf (4,000), over the comparison box, the whole range of exponents, the ends and the corners, and a few of the functions that ask no recipe.
-The first asks the compiled library over faces/python (rt staticlib shuttlemint && faces/python/build), and prints how many points each refusal has, the largest count and every point that differs.
+The first asks the compiled library over faces/python (examples/prove shuttlemint && faces/python/build), and prints how many points each refusal has, the largest count and every point that differs.
 oracle/rounds_points.py --list N prints N of the points, for crates/vectors: function, arguments and the count made here, as words of 16 hex digits.
 
 Rounds do not depend on a recipe's value, so none is worked out here: a recipe is its arguments and its stop test. All is Python's f64, with the C library's sine, cosine and root. Its sine may

@@ -1,7 +1,7 @@
 #!/usr/bin/env python3
 """oracle/speed.py [--before LIBRARY.a] [--write]: every table of speed in docs/MEASURED.md, from one machine and one run of the benchmarks, one after the other.
 --before names the static library of another commit: then the two are timed in turns as well (oracle/turns).
---write puts the tables into docs/MEASURED.md, between its two marks. Wanted first: rt staticlib shuttlemint; rt check legsheet; Boost (README). A quiet machine: it takes some five minutes."""
+--write puts the tables into docs/MEASURED.md, between its two marks. Wanted first: examples/prove shuttlemint; examples/prove legsheet; Boost (README). A quiet machine: it takes some five minutes."""
 import datetime, os, re, subprocess, sys
 
 import measured

@@ -1,7 +1,7 @@
 #!/usr/bin/env python3
 """oracle/wide_points.py [COUNT [SEED]]: ellipeinc, ellipf and ellippi over the whole range of exponents, against mpmath: each answer is within 2^-30 or refused, and none is silently wrong.
 COUNT points each of ellipeinc and ellipf (5,000), phi from 2^-1060 to pi/2 and m from -2^1022 up, above 1 too where m sin^2(phi) < 1; 300 of ellippi.
-It asks the compiled library over faces/python (rt staticlib shuttlemint && faces/python/build) and prints what was refused, the largest difference and every answer that is off.
+It asks the compiled library over faces/python (examples/prove shuttlemint && faces/python/build) and prints what was refused, the largest difference and every answer that is off.
 oracle/wide_points.py --list FUNCTION N SEED prints N points that are answered, for crates/vectors: arguments and reference as patterns."""
 import math, os, random, struct, sys
 

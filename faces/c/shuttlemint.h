@@ -1,6 +1,6 @@
 /* Shuttlemint: elliptic integrals and the leg sheet, in a library in which every function is proved.
 
-   Link target/staticlib/libshuttlemint.a, which `rt staticlib shuttlemint` writes, on x86-64 Linux:
+   Link target/staticlib/libshuttlemint.a, which `examples/prove shuttlemint` writes, on x86-64 Linux:
 
        cc -Ifaces/c program.c target/staticlib/libshuttlemint.a
 

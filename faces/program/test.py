@@ -209,7 +209,7 @@ def main():
             if os.path.exists(os.path.join(given.bin, program)):
                 there[program] = program != 'legsheet' or takes_files(given.bin)
             elif program in listed():
-                verdict.told(program, ['it is not there: rt check %s' % program])
+                verdict.told(program, ['it is not there: examples/prove %s' % program])
     left_out = [p for p in files_model.PROGRAMS if p not in there and p not in listed()] if given.only is None else []
     if there.get('legsheet') is False:
         left_out.append('legsheet FILE')

@@ -48,7 +48,7 @@ fn archive(crate_folder: &Path) -> PathBuf {
         let project = project.canonicalize().unwrap_or(project);
         stop(&[
             format!("The proved library is not built: {} is missing.", built.display()),
-            format!("Build it with   cd {} && rt staticlib shuttlemint", project.display()),
+            format!("Build it with   cd {} && examples/prove shuttlemint", project.display()),
             "or let the variable SHUTTLEMINT_LIB name a built one.".into(),
         ]);
     }

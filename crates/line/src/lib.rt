@@ -1,4 +1,6 @@
 // One line of the program's input: a row count, or an edit.
+#![tactic(auto)]
+
 mod digits;
 mod fields;
 

@@ -1,5 +1,7 @@
 // Pieces of text, one after the other: each is put at a place of a lent buffer, and the answer is the place after it.
 // Where the buffer has not the room that a piece may need, nothing is put and the place stays.
+#![tactic(auto)]
+
 ghost use Rattle.std.specs.Prelude.{◌≡◌, [], ◌∷◌, ◌++◌, ◌+◌, ◌≤◌, ◌<◌, length, ltb};
 ghost use Rattle.text.specs.Text.{glyph_of, digits_of, decimal, pattern, three};
 ghost use Rattle.text.specs.Writing.{Put, Puts};

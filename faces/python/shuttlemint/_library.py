@@ -51,7 +51,7 @@ class LibraryNotFound(ImportError):
 
 
 _NEXT = f"""What to do next, one of these:
-  - in the project: rt staticlib shuttlemint && faces/python/build, which puts libshuttlemint.so beside the module;
+  - in the project: examples/prove shuttlemint && faces/python/build, which puts libshuttlemint.so beside the module;
   - from a release: copy lib/libshuttlemint.so beside the module, or take the whole folder python/shuttlemint;
   - name the file yourself: export {VARIABLE}=/path/to/libshuttlemint.so"""
 

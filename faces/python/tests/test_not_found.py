@@ -21,7 +21,7 @@ class NotFound(Copies):
     def test_nowhere(self):
         said = self.python()
         self.assertIn("LibraryNotFound: The proved library is not found: SHUTTLEMINT_LIBRARY is not set, ", said)
-        self.assertIn("rt staticlib shuttlemint && faces/python/build", said)
+        self.assertIn("examples/prove shuttlemint && faces/python/build", said)
 
     def test_a_wrong_name_is_not_passed_over(self):
         said = self.python(beside=self.file(), SHUTTLEMINT_LIBRARY="/no/such/file.so")

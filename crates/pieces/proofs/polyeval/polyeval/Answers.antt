@@ -1,10 +1,9 @@
 -- The length decides; the paired form reads only the first twelve.
-use Rattle.std.proofs.Common.{◌≡◌, ℕ, ◌<◌, ◌≤◌, List, length, get_or, take, sym, ◌∙◌, lit<, length-take-le, get_or-take, rules, eq-eqb, ne_eqb}
+use Rattle.std.proofs.Common.{◌≡◌, ℕ, ◌<◌, ◌≤◌, List, length, get_or, take, sym, ◌∙◌, lit<, length-take-le, get_or-take, eq-eqb, ne_eqb}
 use lib.Ieee.{Float, nan}
 use Rattle.laws.specs.Ladder.{held, passed}
 use Rattle.pieces.specs.Polyeval.{polyeval_of, paired_of, horner_of}
-use Rattle.pieces.proofs.polyeval.polyeval.Statement.{statement}
-use Rattle.pieces.proofs.polyeval.polyeval.Tie as tie
+use Rattle.pieces.proofs.polyeval.polyeval.Goals as goal
 
 module _ (x : Float) (row : List Float) (count : ℕ) (r : Float) (enough : count ≤ length row) where
   same : paired_of x row ≡ paired_of x (take 12 row)
@@ -22,11 +21,8 @@ module _ (x : Float) (row : List Float) (count : ℕ) (r : Float) (enough : coun
   unfolding polyeval_of
   other n h = passed _ _ (ne_eqb _ _ (λ e. n (sym (length-take-le count row enough) ∙ e))) h
 
-pub polyeval-spec : {M : Type 1} → statement M
-polyeval-spec =
-    tie.close
-    (tie.spec
-    (λ c κs. search rules)
-    (λ c. twelve c.before.before.args.x c.before.before.args.row.now c.before.before.args.count _ c.before.before.requires.1 c.before.if1.true c.paired.ensures)
-    (λ c κs. search rules)
-    (λ c. other c.before.before.args.x c.before.before.args.row.now c.before.before.args.count _ c.before.before.requires.1 c.before.if1.false c.horner.ensures))
+pub returns-then-count-eq12 : goal.returns-then-count-eq12
+returns-then-count-eq12 c = twelve c.args.x c.args.row.now c.args.count _ c.requires.1 c.if-count-eq12.true c.paired.ensures
+
+pub returns : goal.returns
+returns c = other c.args.x c.args.row.now c.args.count _ c.requires.1 c.if-count-eq12.false c.horner.ensures

@@ -3,8 +3,7 @@ use Rattle.std.proofs.Common.{◌≡◌, ℕ, zero, suc, ◌-◌, ◌<◌, ◌�
 use lib.Ieee.{Float, nan}
 use Rattle.laws.specs.Arithmetic.{◌⊕◌, ◌⊗◌, +0}
 use Rattle.pieces.specs.Polyeval.{horner_of}
-use Rattle.pieces.proofs.polyeval.horner.Statement.{statement}
-use Rattle.pieces.proofs.polyeval.horner.Tie as tie
+use Rattle.pieces.proofs.polyeval.horner.Goals as goal
 
 module _ (x : Float) (row : List Float) (count : ℕ) where
   none : count ≤ length row → horner_of x (drop count (take count row)) ≡ +0
@@ -26,46 +25,13 @@ module _ (x : Float) (row : List Float) (count : ℕ) where
   all zero sum h e = e
   all (suc i) sum h e = absurd (not-suc-le-zero h)
 
-abbrev invariant-loop : tie.invariant-loop
-invariant-loop x row count sum₀ i₀ sum i = (i ≤ count) × (sum ≡ horner_of x (drop i (take count row)))
+pub loop-i-init : goal.loop-i-init
+loop-i-init c = (omega arith, sym (none c.args.x c.args.row.now c.args.count c.requires.1))
 
-abbrev decreases-loop : tie.decreases-loop
-decreases-loop x row count sum₀ i₀ sum i = i
+pub loop-i-preserved : goal.loop-i-preserved
+loop-i-preserved c =
+    let l = c.loop-i in
+    (omega arith, one_more_lem c.args.x c.args.row.now c.args.count l.i l.sum c.loop-i-test.true l.invariant.0 c.requires.1 l.invariant.1)
 
-loop-holds : tie.Need-loop-init invariant-loop decreases-loop
-loop-holds c = (omega arith, sym (none c.args.x c.args.row.now c.args.count c.requires.1))
-
-sub-i : tie.Need-overflow-sub-i invariant-loop decreases-loop
-sub-i c = omega arith
-
-mul-sum : tie.Need-overflow-mul-sum invariant-loop decreases-loop
-mul-sum c = omega arith
-
-element-copy-out-sum : tie.Need-element-copy-out-sum invariant-loop decreases-loop
-element-copy-out-sum c = omega arith
-
-loop-less : tie.Need-loop-smaller invariant-loop decreases-loop
-loop-less c = omega arith
-
-loop-again : tie.Need-loop-preserved invariant-loop decreases-loop
-loop-again c =
-    let l = c.before.before.loop in
-    let a = c.before.before.before in
-    (omega arith, one_more_lem a.args.x a.args.row.now a.args.count l.i l.sum c.before.loop-test.true l.invariant.0 a.requires.1 l.invariant.1)
-
-returns : tie.Need-returns invariant-loop decreases-loop
-returns c = all c.before.before.args.x c.before.before.args.row.now c.before.before.args.count c.before.loop.i c.before.loop.sum c.loop-test.false c.before.loop.invariant.1
-
-pub horner-spec : {M : Type 1} → statement M
-horner-spec =
-    tie.close
-    (tie.spec
-    invariant-loop
-    decreases-loop
-    loop-holds
-    sub-i
-    mul-sum
-    element-copy-out-sum
-    loop-less
-    loop-again
-    returns)
+pub returns : goal.returns
+returns c = all c.args.x c.args.row.now c.args.count c.loop-i.i c.loop-i.sum c.loop-i-test.false c.loop-i.invariant.1

@@ -5,6 +5,8 @@
 // is then a sum of cut quotients, so that a cut only ever loses. At every degree n the two numbers are
 // the cut sums from n on, short of the exact ones by a few units (the divisors still to come divide
 // what was lost). Their difference is cosine, and times x sine; one rounding to nearest ends each.
+#![tactic(auto)]
+
 ghost use Rattle.std.specs.Prelude.{◌≡◌, ◌*◌, ◌^◌, ◌≤◌, min, ltb};
 ghost use Rattle.std.specs.Float.{binary64};
 ghost use Rattle.std.specs.Float.Ieee.{unlike, round};

@@ -1,5 +1,7 @@
 // What Carlson's symmetric integrals share: each of RF, RC, RD and RJ is a crate of its own, by duplication (01, module 5; DLMF 19.36(i); Carlson 1995).
 // docs/STEPS.md writes the steps down and says what infinite and NaN arguments do.
+#![tactic(auto)]
+
 ghost use Rattle.std.specs.Prelude.{◌≡◌};
 ghost use Rattle.carlson.specs.Series.{larger_of, fifth_of, trusted_of};
 

@@ -1,4 +1,6 @@
 // Cosine of |x| up to 4 by itself (01, module 2). NaN is refusal 1, any other x 12.
+#![tactic(auto)]
+
 ghost use Rattle.std.specs.Prelude.{◌≡◌};
 ghost use Rattle.angle.specs.Series.{CosineWithin, UpToOne};
 ghost use Rattle.angle.specs.Cosine.{cosine_of};

@@ -1,4 +1,6 @@
 // A whole number that takes 34 limbs, in hex: an exact total, or the difference of two.
+#![tactic(auto)]
+
 ghost use Rattle.std.specs.Prelude.{◌≡◌, [], ◌∷◌, ◌++◌, ◌+◌, ◌*◌, ◌≤◌, length, ltb};
 ghost use Rattle.total.specs.Total.{val};
 ghost use Rattle.exact.specs.Exact.{limb_of, hex_of, sign_of, signed_hex};

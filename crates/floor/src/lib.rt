@@ -1,5 +1,7 @@
 // The whole number beside a value: toward zero, and below. From 2^52 on every f64 is a whole number
 // and stays.
+#![tactic(auto)]
+
 ghost use Rattle.std.specs.Prelude.{◌≡◌, ◌/◌, ◌^◌, ◌<◌, ◌≤◌};
 ghost use Rattle.floor.specs.Floor.{trunc_of, floor_of, ceiling};
 

@@ -5,6 +5,8 @@
 // some of it; what is lost lies far below the digits that a result keeps, so it is enough to know whether it was
 // anything. Then one sum, or one difference less a place where something was lost, and one rounding. Exact numbers
 // count in 2^-2340.
+#![tactic(auto)]
+
 ghost use Rattle.std.specs.Prelude.{◌≡◌, cond, ◌&&◌, ◌+◌, ◌*◌, ◌^◌, ◌<◌, ◌≤◌, ltb};
 ghost use Rattle.std.specs.Float.{binary64};
 ghost use Rattle.std.specs.Float.Ieee.{sum, unlike};

@@ -2,6 +2,8 @@
 //
 // Reading: the digits go into 128 bits as long as they fit; then they are dropped one by one, and what is kept is how many, and whether one of them was not 0.
 // That is all that the one rounding asks.
+#![tactic(auto)]
+
 mod bytes;
 mod digits;
 mod field;

@@ -1,4 +1,6 @@
 // A sheet as hex text (02, [10]): a line at a time at the start of a lent buffer, so that memory does not grow with the rows.
+#![tactic(auto)]
+
 ghost use Rattle.std.specs.Prelude.{◌≡◌, ◌+◌, ◌≤◌, length};
 ghost use Rattle.text.specs.Writing.{Put};
 ghost use Rattle.placing.specs.Placed.{Placed};

@@ -1,4 +1,6 @@
 // What a sheet's rows say, for the programs that compare, report and convert. Every call answers for any bytes.
+#![tactic(auto)]
+
 ghost use Rattle.std.specs.Prelude.{◌≡◌};
 ghost use Rattle.inspection.specs.Rows.{sound_row, first_rejected, class_in, word_of, value_in};
 

@@ -1,5 +1,7 @@
 // The leg sheet's bytes, in memory that the caller lends (01, "The leg sheet"): contents, rows, counts and total. Nothing here knows the integrals.
 // Every call answers for any bytes; a refused one changes none.
+#![tactic(auto)]
+
 ghost use Rattle.std.specs.Prelude.{◌≡◌, false, ◌+◌, ◌*◌, ◌≤◌, ◌<◌};
 ghost use Rattle.total.specs.Total.{val};
 ghost use Rattle.ledger.specs.Bytes.{fields};

@@ -5,6 +5,8 @@
 // The terms above 0 and those below it are summed apart, on whole numbers of 64 bits from the last
 // term to the first, and then in two limbs: a cut only ever loses, and at every degree n the number is
 // the cut sum from n on, short of the exact one by at most 4 units. One rounding of the difference ends it.
+#![tactic(auto)]
+
 ghost use Rattle.std.specs.Prelude.{◌≡◌, ◌*◌, ◌^◌, ◌≤◌, ◌<◌};
 ghost use Rattle.logarithm.specs.Logarithm.{logarithm_at, logarithm_of};
 ghost use Rattle.logarithm.specs.Series.{LogarithmWithin};

@@ -1,5 +1,7 @@
 // The month report (02, [2]), from up to 400 sheets, one in memory at a time: a report by value, whose size does not grow.
 // It is a function of the rows alone: counts and totals that a sheet stores are not looked at.
+#![tactic(auto)]
+
 mod extreme;
 mod parts;
 mod share;

@@ -99,6 +99,10 @@ within_of (fin r m e) (fin u n d) s t a b c hx hy h =
     (lt_of_le_of_lt (le_of_eq (mul_right_comm (m * up e) (down d) c ∙ ap (λ (k : ℕ). k * down d) hx.1 ∙ mul_assoc a (down e) (down d)))
     (lt_of_lt_of_le (mul-lt-mul_of_pos_right h (mul-pos (down_pos e) (down_pos d)))
     (le_of_eq (sym (mul_right_comm (n * up d) (down e) c ∙ ap (λ (k : ℕ). k * down e) hy.1 ∙ mul_right_comm b (down d) (down e) ∙ mul_assoc b (down e) (down d))))))))
+within_of nan y s t a b c hx hy h = elim hx [ ]
+within_of (inf _) y s t a b c hx hy h = elim hx [ ]
+within_of (fin r m e) nan s t a b c hx hy h = elim hy [ ]
+within_of (fin r m e) (inf _) s t a b c hx hy h = elim hy [ ]
 
 no_longer : (x y : Float) (s t : Bool) (d e d' e' : ℕ) → Decoded x s d e → Decoded y t d' e' → within x y ≡ false → e' ≤ e
 no_longer x y s t d e d' e' p q h = go (lt-or-le e e')

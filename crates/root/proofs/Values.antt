@@ -62,3 +62,5 @@ some_digits x s d e p h = first_pos d (2 ^ e) (value_pos x (d * 2 ^ e) (2 ^ 1074
     unsigned : (x : Float) → T (positive x) → HasValue x s (d * 2 ^ e) (2 ^ 1074) → HasValue x false (d * 2 ^ e) (2 ^ 1074)
     unsigned (fin true m e) p h = absurd p
     unsigned (fin false m e) p h = (refl, h.1)
+    unsigned nan p h = elim p [ ]
+    unsigned (inf _) p h = elim p [ ]

@@ -5,6 +5,8 @@
 // below. Then 8(n - q·q) is `rest` times s: with each digit s halves and the rest doubles, so that one word holds it to the
 // end. The next digit, at s/2, adds s(8q + 2s)/8 to the square: it is 1 where `next`, 8q + 2s, can be taken from the rest.
 // The 54th digit rounds: up where it is 1. There is no tie, since the root is then no whole number: n is even, and an odd square is not.
+#![tactic(auto)]
+
 ghost use Rattle.std.specs.Prelude.{◌≡◌, ℕ, ◌+◌, ◌*◌, ◌^◌, ◌<◌, ◌≤◌, Float};
 ghost use Rattle.root.specs.Root.{root_of, whole_root};
 ghost use Rattle.root.specs.Steps.{Tried, Moving, Sized, Aligned, Readied};

@@ -1,5 +1,7 @@
 // Magnitude, and the whole number nearest to a value, halves away from zero. From 2^52 on every f64
 // is a whole number and stays.
+#![tactic(auto)]
+
 ghost use Rattle.std.specs.Prelude.{◌≡◌, ◌^◌, ◌<◌, ◌≤◌};
 ghost use Rattle.whole.specs.Whole.{magnitude_of, round_of, half_up};
 

@@ -1,7 +1,7 @@
 -- The multiply-add of any fractions that x, y and z are written as. Assumes nothing.
 use Rattle.std.specs.Prelude.{◌≡◌, Bool, ℕ, ◌*◌, ◌<◌, Float}
 use Rattle.std.proofs.Common.{sym, ◌∙◌, mul_assoc, mul_comm, mul_left_comm, mul-pos}
-use Rattle.std.specs.Float.{fin, binary64}
+use Rattle.std.specs.Float.{fin, nan, inf, binary64}
 use Rattle.std.specs.Float.Ieee.{up, down, unlike, sum}
 use Rattle.std.specs.Float.Ieee.Exact.{HasValue}
 use Rattle.std.specs.Float.Ieee.Fits.{down_pos}
@@ -30,3 +30,9 @@ fused_fraction (fin s' m e) (fin t' n f) (fin u' l h) s t u a c b d k g C D G hx
     (mul-pos (mul-pos (down_pos e) (down_pos f)) (down_pos h)) (mul-pos (mul-pos C D) G)
     (crossed (m * up e) c a (down e) (n * up f) d b (down f) g (down h) hx.1 hy.1)
     (crossed_last (l * up h) g k (down h) (down e) (down f) c d hz.1))
+fused_fraction nan y z s t u a c b d k g C D G hx hy hz = elim hx [ ]
+fused_fraction (inf _) y z s t u a c b d k g C D G hx hy hz = elim hx [ ]
+fused_fraction (fin s' m e) nan z s t u a c b d k g C D G hx hy hz = elim hy [ ]
+fused_fraction (fin s' m e) (inf _) z s t u a c b d k g C D G hx hy hz = elim hy [ ]
+fused_fraction (fin s' m e) (fin t' n f) nan s t u a c b d k g C D G hx hy hz = elim hz [ ]
+fused_fraction (fin s' m e) (fin t' n f) (inf _) s t u a c b d k g C D G hx hy hz = elim hz [ ]

@@ -6,7 +6,7 @@ use Rattle.std.proofs.Math.Nat.{div-eq_of_lt}
 use native.Mathlib.Omega.{arith}
 use Rattle.std.proofs.Math.Bool.{true, false, cond}
 use Rattle.std.proofs.Math.Dec.{ltb}
-use Rattle.std.specs.Float.Ieee.{binary64, round, low, size, units}
+use Rattle.std.specs.Float.Ieee.{binary64, round, size, units}
 use Rattle.std.specs.Float.Ieee.Fits.{core, round_is}
 use Rattle.std.specs.Float.Ieee.Nearest.{closest, closest_mono}
 use Rattle.std.specs.Float.Ieee.Scale.{round_same}

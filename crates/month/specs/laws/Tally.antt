@@ -1,5 +1,5 @@
 -- A list of counts, one more at a time: its places and their sum, as long as no count reaches 2 ^ 64. Assumes nothing.
-use Rattle.std.specs.Prelude.{◌≡◌, ℕ, zero, suc, ◌+◌, ◌%◌, ◌^◌, ◌<◌, ◌≤◌, Bool, true, false, cond, ◌&&◌, List, [], ◌∷◌, length, set, replicate, ◌==◌, slice_index, slice_set}
+use Rattle.std.specs.Prelude.{◌≡◌, ℕ, zero, suc, ◌+◌, ◌%◌, ◌^◌, ◌<◌, ◌≤◌, Bool, true, false, cond, ◌&&◌, List, [], ◌∷◌, length, replicate, ◌==◌, slice_index, slice_set}
 use Rattle.std.proofs.Math.Path.{refl}
 use Rattle.std.proofs.Common.{◌∙◌, mod-eq_of_lt, le_of_suc-le-suc, not-suc-le-zero, eqb-true, length-set, get_or-set_other}
 use native.Mathlib.Omega.{arith}

@@ -35,6 +35,10 @@ pub remainder_at : (x y : Float) (s t : Bool) (a b : ℕ) → 0 < b → HasValue
 unfolding remainder_of
 remainder_at (fin r m e) (fin u zero d) s t a b B hx hy = absurd (no_zero d b (2 ^ 1074) B hy.1)
 remainder_at (fin r m e) (fin u (suc n) d) s t a b B hx hy = (λ i. round binary64 (hx.0 i) (units_are m e a hx.1 i % units_are (suc n) d b hy.1 i) (2 ^ 1074))
+remainder_at nan y s t a b B hx hy = elim hx [ ]
+remainder_at (inf _) y s t a b B hx hy = elim hx [ ]
+remainder_at (fin r m e) nan s t a b B hx hy = elim hy [ ]
+remainder_at (fin r m e) (inf _) s t a b B hx hy = elim hy [ ]
 
 -- a divisor that is not zero
 pub rem_some : (s : Bool) (m : ℕ) (e : ℤ) (t : Bool) (n : ℕ) (d : ℤ) → fin s m e %% fin t (suc n) d ≡ round binary64 s (m * up e * down d % (suc n * up d * down e)) (down e * down d)
@@ -66,6 +70,10 @@ rem_at (fin r m e) (fin u (suc n) d) s t a b c B C hx hy =
         sym (mod_scaled (m * up e * down d) (suc n * up d * down e) c (mul-pos (mul-pos (zero-lt-suc n) (up_pos d)) (down_pos e)) C)
         ∙ (λ i. dividend i % divisor i)
         ∙ mod_scaled a b D B (mul-pos (down_pos e) (down_pos d))
+rem_at nan y s t a b c B C hx hy = elim hx [ ]
+rem_at (inf _) y s t a b c B C hx hy = elim hx [ ]
+rem_at (fin r m e) nan s t a b c B C hx hy = elim hy [ ]
+rem_at (fin r m e) (inf _) s t a b c B C hx hy = elim hy [ ]
 
 -- ---- every f64 is a whole number of units
 pub record Written (m : ℕ) (e : ℤ) : Type 0 where

@@ -4,8 +4,8 @@ use Rattle.std.proofs.Common.{sym, ap, ◌∙◌, subst, le_trans, le_of_eq, le_
 use Prim.Native.Nat.{zero-le, compare, Ordering}
 use Rattle.std.proofs.Math.Nat.{mul-mul-mul_comm}
 use Rattle.std.proofs.Math.Dec.{nleb→lt}
-use Rattle.std.specs.Float.{fin, binary64}
-use Rattle.std.specs.Float.Ieee.{down, up, size, nearest, units}
+use Rattle.std.specs.Float.{fin, nan, inf, binary64}
+use Rattle.std.specs.Float.Ieee.{down, size, nearest, units}
 use Rattle.std.specs.Float.Ieee.Digits.{size-lt}
 use Rattle.std.specs.Float.Ieee.Exact.{HasValue}
 use Rattle.std.specs.Float.Ieee.Fits.{down_pos}
@@ -144,3 +144,5 @@ unfolding root_of
 root_at (fin true m e) s n p h = absurd p
 root_at (fin false zero e) s n p h = absurd (lt_irrefl 0 (ltb→lt 0 0 p))
 root_at (fin false (suc m) e) s n p h = ap (λ (y : ℕ). round_root (y * 2 ^ 1074)) (ap (λ (y : ℕ). y / down e) h.1 ∙ mul-div_cancel n (down_pos e))
+root_at nan s n p h = elim p [ ]
+root_at (inf _) s n p h = elim p [ ]

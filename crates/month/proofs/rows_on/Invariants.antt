@@ -1,0 +1,10 @@
+-- What the rows from here on make of what is held is what all rows make of the report.
+use Rattle.std.proofs.Common.{◌≡◌, ◌-◌, ◌≤◌}
+use Rattle.month.specs.Month.{legs_from, legs_on}
+use Rattle.month.proofs.rows_on.Given as goal
+
+abbrev pub invariant-loop-i : goal.invariant-loop-i
+invariant-loop-i l = (l.i ≤ l.rows) × (legs_on l.held (legs_from l.number l.sheet l.i (l.rows - l.i)) ≡ legs_on l.initial.held (legs_from l.number l.sheet 0 l.rows))
+
+abbrev pub decreases-loop-i : goal.decreases-loop-i
+decreases-loop-i l = l.rows - l.i

@@ -1,0 +1,6 @@
+-- `first_trial` meets its contract (`Trials`).
+use Rattle.root.proofs.Trials.{first}
+use Rattle.root.proofs.first_trial.Goals as goal
+
+pub returns : goal.returns
+returns c = first c.args.radicand c.requires.0 c.requires.1

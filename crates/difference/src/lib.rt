@@ -1,5 +1,7 @@
 // Two sheets compared (02, [5]): what refuses it, how each row differs, and the difference of the two exact totals.
 // Every call answers for any bytes.
+#![tactic(auto)]
+
 ghost use Rattle.std.specs.Prelude.{◌≡◌, ◌+◌, ◌-◌, ltb, nat_abs};
 ghost use Rattle.std.specs.Float.Ieee.Scale.{finite};
 ghost use Rattle.laws.specs.Arithmetic.{float};

@@ -1,1 +1,2 @@
 pub mod NewName
+pub mod Utf8

@@ -1,6 +1,6 @@
 -- The new file's name: its folder, its pieces, and the names that were tried. Assumes nothing.
-use Rattle.std.proofs.Common.{◌≡◌, ℕ, ◌+◌, ◌-◌, ◌<◌, ◌≤◌, true, false, T, List, [], ◌∷◌, ◌++◌, length, get_or, take, set, ℤ, pos, negsuc, nat_abs, sym, refl, ap, ◌∙◌, zero-add, add-one, arith, length-append, take-suc-set, take_at, w32, w64, Fits, SFits, below_more, eq-eqb, ne_eqb}
-use lib.Signed.{lt_z, non_neg}
+use Rattle.std.proofs.Common.{◌≡◌, ℕ, ◌+◌, ◌-◌, ◌<◌, ◌≤◌, List, [], ◌∷◌, ◌++◌, length, get_or, take, set, ℤ, sym, refl, ap, ◌∙◌, zero-add, add-one, arith, length-append, take-suc-set, take_at, below_more, eq-eqb, ne_eqb}
+use Rattle.std.specs.Prelude.{Some, None}
 use Rattle.laws.specs.Ascii.{ascii}
 use Rattle.text.specs.Text.{decimal}
 use Rattle.text.specs.Writing.{Puts}
@@ -26,13 +26,6 @@ module _ (name : List ℕ) (n : ℕ) (some : 0 < n) where
 pub folder_is : (name : List ℕ) (n : ℕ) → n ≡ folder_end name (length name) → folder_of name ≡ take n name
 unfolding folder_of
 folder_is name n e = rw (← e) refl
-
--- ---- the process's number
-
--- one that is not below zero is a whole number
-pub whole-number : (z : ℤ) → lt_z z (pos 0) ≡ false → SFits w32 z → T (non_neg z) × Fits w64 (nat_abs z)
-whole-number (pos n) e h = (tt, record { fits = omega (arith, h.sfits) })
-whole-number (negsuc n) e h = let z : ◌≡◌ {A = ℕ} 0 1 = cc in absurd (omega arith)
 
 -- ---- the pieces of its stem
 
@@ -64,17 +57,16 @@ pub record TriedTo (at k : ℕ) (first path : List ℕ) : Type 0 where
 pub none_tried : (at : ℕ) (path : List ℕ) → TriedTo at 0 path path
 none_tried at path = record { stem = refl; size = refl; few = omega arith; all = λ j h. absurd (omega arith) }
 
-module _ (at k : ℕ) (first old new : List ℕ) (file : ℤ) (h : TriedTo at k first old) (below : k < 10) (digit : take (at + 1) new ≡ with_digit (take at old) k)
-    (c : Called (makes (take (at + 1) new) file)) where
+module _ (at k : ℕ) (first old new : List ℕ) (h : TriedTo at k first old) (below : k < 10) (digit : take (at + 1) new ≡ with_digit (take at old) k) where
   named : take (at + 1) new ≡ with_digit (take at first) k
   named = digit ∙ ap (λ (s : List ℕ). with_digit s k) h.stem
 
-  pub one_free : lt_z file (pos 0) ≡ false → Tries (take at first) (take (at + 1) new) file
-  one_free e = free k below named c e
+  pub one_free : (file : ℤ) → Called (makes (take (at + 1) new) (Some file)) → Tries (take at first) (take (at + 1) new) (Some file)
+  one_free file c = free k file below named c
 
-  pub one-taken : lt_z file (pos 0) ≡ true → take at new ≡ take at old → length new ≡ length old → TriedTo at (k + 1) first new
-  one-taken e kept size =
-      let it : Taken (with_digit (take at first) k) = record { file = file; tried = rw named at c; bad = e } in
+  pub one-taken : Called (makes (take (at + 1) new) None) → take at new ≡ take at old → length new ≡ length old → TriedTo at (k + 1) first new
+  one-taken c kept size =
+      let it : Taken (with_digit (take at first) k) = rw named at c in
       record {
         stem = kept ∙ h.stem;
         size = size ∙ h.size;

@@ -1,4 +1,4 @@
--- The calls of C that a program makes (Calls); what reads bring (Reads), a file put in place (Save), text sent to an output (Output), what is said of a file and of
+-- The calls of the system that a program makes (Calls); what reads bring (Reads), a file put in place (Save), text sent to an output (Output), what is said of a file and of
 -- the call (Notes).
 pub mod Calls
 pub mod Reads

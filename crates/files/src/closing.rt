@@ -1,9 +1,13 @@
 // A file that is there, closed.
+ghost use Rattle.std.specs.Fd.{file_raw_fd};
 ghost use Rattle.files.specs.Calls.{Called, closes};
 
-// The one call of close.
-pub fn close(file: i32) -> bool
-    ensures { Called (closes file result) }
+use std::fs::File;
+use std::mem::drop;
+
+// The one place where a file is closed: a failure of that is lost.
+pub fn close(file: File)
+    ensures { Called (closes (file_raw_fd file)) }
 {
-    libc::close(file) == 0
+    drop(file);
 }

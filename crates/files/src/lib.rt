@@ -1,5 +1,7 @@
-// The one crate that reads, makes and writes files, and knows the words of the program's call; `loading` opens those that are there. Each call of C stands in one
-// function, whose contract says that it was made and what it answered.
+// The one crate that reads, makes and writes files, and knows the words of the program's call; `loading` opens those that are there. Each call of the system stands in
+// one function, whose contract says that it was made and what it answered.
+#![tactic(auto)]
+
 mod calling;
 mod closing;
 mod naming;
@@ -10,7 +12,7 @@ mod sending;
 
 pub use calling::{WORD, word, word_count};
 pub use closing::close;
-pub use reading::{call_read, read_some};
+pub use reading::{Source, call_read, count, read_some};
 pub use saving::save;
 pub use saying::{cannot_write, put_note, tell, usage};
-pub use sending::{Output, begin, put};
+pub use sending::{Output, Stream, begin, put};

@@ -1,9 +1,12 @@
 // A new file in the same folder as another, under a name that was free.
-ghost use Rattle.std.specs.Prelude.{◌≡◌, ◌+◌, ◌<◌, ◌≤◌, length, take};
-ghost use Rattle.files.specs.Calls.{Called, makes};
+ghost use Rattle.std.specs.Prelude.{◌≡◌, ◌+◌, ◌<◌, ◌≤◌, length, take, IsUtf8};
+ghost use Rattle.files.specs.Calls.{Called, makes, number_if};
 ghost use Rattle.files.specs.Save.{folder_end, folder_of, stem_of, Stem, with_digit, longest_folder, Tries};
 
-use libc::PATH_MAX;
+use std::fs::{File, OpenOptions};
+
+// The longest path, and the byte that ends it.
+pub const PATH: usize = 4096;
 
 // The longest folder that leaves room for the new file's name.
 const FOLDER: usize = 4068;
@@ -35,51 +38,48 @@ fn put_stem(folder: &[u8], number: u64, path: &mut [u8]) -> usize
 }
 
 // The one call that makes a file.
-fn create(new: &[u8]) -> i32
-    ensures { Called (makes new.now result) }
+fn create(rt: &HostRuntime, new: &str) -> Option<File>
+    ensures { Called (makes new.now (number_if result)) }
 {
-    os::create(new)
+    OpenOptions::new()
+        .write(true)
+        .create_new(true)
+        .open(rt, new)
+        .ok()
 }
 
-// The name with this digit: whether it was free.
-fn try_name(path: &mut [u8], at: usize, k: u8) -> i32
-    requires { (at < length path.old) × (k < 10) }
+// The name with this digit: the file, where it was free.
+fn try_name(rt: &HostRuntime, path: &mut [u8], at: usize, k: u8) -> Option<File>
+    requires { (at < length path.old) × (k < 10) × IsUtf8 (take at path.old) }
     ensures path_unchanged { take at path.new ≡ take at path.old }
     ensures path_after { take (at + 1) path.new ≡ with_digit (take at path.old) k }
-    ensures called { Called (makes (take (at + 1) path.new) result) }
+    ensures called { Called (makes (take (at + 1) path.new) (number_if result)) }
 {
     path[at] = 48 + k;
     let n = at + 1;
-    create(&path[0..n])
+    let Ok(new) = std::str::from_utf8(&path[0..n]) else {
+        unreachable!()
+    };
+    create(rt, new)
 }
 
 // The ten names, one after the other, up to one that was free.
-pub(crate) fn try_names(path: &mut [u8], at: usize) -> i32
-    requires { at < length path.old }
-    ensures { Tries (take at path.old) (take (at + 1) path.new) result }
+pub(crate) fn try_names(rt: &HostRuntime, path: &mut [u8], at: usize) -> Option<File>
+    requires { (at < length path.old) × IsUtf8 (take at path.old) }
+    ensures { Tries (take at path.old) (take (at + 1) path.new) (number_if result) }
 {
     let mut k: u8 = 0;
     while k < 10 {
-        let file = try_name(path, at, k);
-        if !(file < 0) {
-            return file;
+        if let Some(file) = try_name(rt, path, at, k) {
+            return Some(file);
         }
         k += 1;
     }
-    -1
-}
-
-// The process's number.
-fn process() -> u64 {
-    let number = libc::getpid();
-    if number < 0 {
-        return 0;
-    }
-    number as u64
+    None
 }
 
 // The new name but for its last digit, at the start of the path: its length, and 0 where the folder's name is too long.
-pub(crate) fn put_new(name: &[u8], path: &mut [u8; PATH_MAX]) -> usize
+pub(crate) fn put_new(rt: &HostRuntime, name: &[u8], path: &mut [u8; PATH]) -> usize
     ensures longest_folder_in_bounds { result ≡ 0 → longest_folder < length (folder_of name.now) }
     ensures stem { 0 < result → Stem name.now (take result path.new) × (result < 4096) × (length path.new ≡ 4096) }
 {
@@ -87,5 +87,5 @@ pub(crate) fn put_new(name: &[u8], path: &mut [u8; PATH_MAX]) -> usize
     if FOLDER < n {
         return 0;
     }
-    put_stem(&name[0..n], process(), path)
+    put_stem(&name[0..n], u64::from(std::process::id(rt.process())), path)
 }

@@ -1,5 +1,7 @@
 // Complete elliptic integrals of the first and second kind, K(m) and E(m), for m ≤ 1 (01, modules 3 and 4; crate ellip 1.2.3).
 // NaN is refusal 1 and m > 1 refusal 2. k.rt, e.rt and ke.rt are what ellipk.rs, ellipe.rs and ellipke.rs do below 1; the crate pieces has their tables.
+#![tactic(auto)]
+
 ghost use Rattle.std.specs.Prelude.{◌≡◌};
 ghost use Rattle.answer.specs.Answer.{value_of};
 ghost use Rattle.legendre.specs.Ellipk.{k_unchecked_of, ellipk_of};

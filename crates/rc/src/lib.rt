@@ -1,6 +1,8 @@
 // Carlson's RC(x, y), which is RF(x, y, y), by duplication (01, module 5; DLMF 19.36(i); Carlson 1995).
 // A round takes L = 2√x√y + y and makes both arguments and their mean, in which y counts twice, (itself + L) / 4. RC does not change (DLMF 19.26.25): that is the invariant.
 // The distance between the mean and the farther argument is quartered; once it is below mean / 128 a series of seventh order closes.
+#![tactic(auto)]
+
 ghost use Rattle.std.specs.Prelude.{◌≡◌};
 ghost use Rattle.rc.specs.Rc.{start_of, stops_of, round_of, closed_of, rc_of};
 

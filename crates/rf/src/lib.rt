@@ -1,6 +1,8 @@
 // Carlson's RF(x, y, z) by duplication (01, module 5; DLMF 19.36(i); Carlson 1995).
 // A round takes L = √x√y + √y√z + √z√x and makes each argument and their mean (itself + L) / 4. RF does not change (DLMF 19.26.18): that is the invariant.
 // The distance between the mean and the farthest argument is quartered; once it is below mean / 512 the arguments are so near to their mean that a series of fifth order closes.
+#![tactic(auto)]
+
 ghost use Rattle.std.specs.Prelude.{◌≡◌};
 ghost use Rattle.rf.specs.Rf.{start_of, stops_of, roots_of, next_of, round_of, closed_of, finish_of, rf_of};
 

@@ -1,5 +1,5 @@
 -- Where an f64 falls in `by_domain`, and what is known of it there. Assumes nothing.
-use Rattle.std.specs.Prelude.{◌≡◌, refl, Bool, true, false, not, ◌&&◌, ℕ, zero, suc, ◌+◌, ◌-◌, ◌*◌, ◌^◌, ◌≤◌, ◌<◌, ℤ, T, eqb, Float}
+use Rattle.std.specs.Prelude.{◌≡◌, refl, Bool, true, false, not, ◌&&◌, ℕ, zero, suc, ◌+◌, ◌*◌, ◌^◌, ◌≤◌, ◌<◌, ℤ, T, eqb, Float}
 use Rattle.std.proofs.Common.{sym, ap, ◌∙◌, subst, true≢false, arith, ltb→lt, nltb→le, pow_pos}
 use native.Mathlib.Nat.{le_of_eq, le_of_lt, lt_of_lt_of_le, zero-mul, mul_comm, mul-pos, mul-lt-mul_of_pos_right, lt_of_mul-lt-mul_right}
 use Rattle.std.proofs.Math.Arith.{lt_of_le-ne}

@@ -1,0 +1,6 @@
+-- The call.
+use Rattle.files.specs.Calls.{called}
+use Rattle.files.proofs.saving.sync.Goals as goal
+
+pub returns : goal.returns
+returns c = called _

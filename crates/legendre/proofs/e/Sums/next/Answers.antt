@@ -1,0 +1,7 @@
+-- The two means by what they ensure; the rest is computed.
+use Rattle.legendre.specs.Ellipe.{next_of}
+use Rattle.legendre.proofs.e.Sums.next.Goals as goal
+
+pub returns : goal.returns
+unfolding next_of
+returns c = rw (c.geometric-y.ensures, c.arithmetic-x.ensures)

@@ -1,0 +1,8 @@
+-- The definition, computed.
+use mathlib.Core.Path.{refl}
+use Rattle.legendre.specs.Mean.{arithmetic_of}
+use Rattle.legendre.proofs.k.arithmetic.Goals as goal
+
+pub returns : goal.returns
+unfolding arithmetic_of
+returns c = refl

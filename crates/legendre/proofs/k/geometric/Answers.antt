@@ -1,0 +1,7 @@
+-- What root ensures of the product.
+use Rattle.legendre.specs.Mean.{geometric_of}
+use Rattle.legendre.proofs.k.geometric.Goals as goal
+
+pub returns : goal.returns
+unfolding geometric_of
+returns c = c.root.ensures

@@ -6,6 +6,8 @@
 // numbers of 64 bits from the last term to the first, so that a cut only ever loses: at every degree n
 // the number is the cut sum from n on, short of the exact one by at most 4 units, and the two sides of
 // the whole sum by at most 9. One rounding of their difference ends it.
+#![tactic(auto)]
+
 ghost use Rattle.std.specs.Prelude.{◌≡◌, ◌-◌, ◌*◌, ◌^◌, ◌≤◌, ◌<◌};
 ghost use Rattle.std.specs.Float.{binary64};
 ghost use Rattle.std.specs.Float.Ieee.{round};

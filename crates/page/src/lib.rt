@@ -1,4 +1,6 @@
 // What the program prints, written into a lent buffer: the whole page, or one line instead of it.
+#![tactic(auto)]
+
 mod row;
 
 ghost use Rattle.std.specs.Prelude.{◌≡◌, ◌++◌, ◌+◌, ◌*◌, ◌≤◌, length};

@@ -1,6 +1,6 @@
 -- Where `quotient` is a quotient. Assumes nothing.
 use Rattle.std.specs.Prelude.{◌≡◌, ℕ, ◌*◌, ◌/◌, ◌^◌, ◌<◌, Bool, cond, ◌&&◌, nat_lt}
-use Rattle.std.proofs.Common.{ap₂, ◌∙◌, lt→ltb}
+use Rattle.std.proofs.Common.{ap₂, lt→ltb}
 use Rattle.std.specs.Float.Ieee.Bits.{is_true}
 use Rattle.arctangent.specs.Quotient.{quotient_of}
 

@@ -1,5 +1,7 @@
 // From a sheet that says 1 to one that says 3, and back (02, [9]), in the caller's bytes: the length stays.
 // `forth` says which way: true from 1 to 3, false back. Counts and total are carried over.
+#![tactic(auto)]
+
 ghost use Rattle.std.specs.Prelude.{◌≡◌, true, ◌++◌, ◌+◌, ◌≤◌, ◌<◌, length, take, drop, eqb};
 ghost use Rattle.laws.specs.Ladder.{when◌gives◌else◌};
 ghost use Rattle.laws.specs.Splice.{splice};

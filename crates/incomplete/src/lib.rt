@@ -1,4 +1,6 @@
 // What ellippi, ellipeinc and ellipf share: sine and cosine as numbers in a formula, and the period reduction of ellipeinc.rs and ellipf.rs.
+#![tactic(auto)]
+
 ghost use Rattle.std.specs.Prelude.{◌≡◌};
 ghost use Rattle.answer.specs.Answer.{value_of};
 ghost use Rattle.angle.specs.Sine.{sine_of};

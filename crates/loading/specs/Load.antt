@@ -1,6 +1,5 @@
 -- A file's bytes, as far as a buffer goes. Definitions only.
-use Rattle.std.specs.Prelude.{◌≡◌, ℕ, ◌+◌, ◌<◌, Bool, true, false, List, [], ◌∷◌, ℤ, pos, length}
-use Rattle.std.specs.Int.Signed.{lt_z}
+use Rattle.std.specs.Prelude.{◌≡◌, ℕ, ◌+◌, ◌<◌, Bool, true, false, List, [], ◌∷◌, ℤ, length, Some, None, IsUtf8}
 use Rattle.files.specs.Calls.{Read, opens, reads, closes, Called}
 use Rattle.files.specs.Reads.{brought_of, failed_of, input_of}
 
@@ -23,10 +22,10 @@ pub record Brought (room : ℕ) (file : ℤ) (bytes : List ℕ) (ok : Bool) : Ty
   pub fills : Fills room file 0 reads ok
   pub is : bytes ≡ input_of reads
 
--- the file of this name: its bytes, and whether they could be read; none where it could not be opened, or a read failed
+-- the file of this name: its bytes, and whether they could be read; none where the name is no UTF-8 text, which std takes for no name, where the file could not be
+-- opened, or a read failed
 pub data Load (name : List ℕ) : List ℕ → Bool → Type 0 where
-  unopened : (file : ℤ) → Called (opens name file) → lt_z file (pos 0) ≡ true → Load name [] false
-  opened : {bytes : List ℕ} (file : ℤ) (shut : Bool) → Called (opens name file) → lt_z file (pos 0) ≡ false → Brought most file bytes true → Called (closes file shut)
-      → Load name bytes true
-  broken : {bytes : List ℕ} (file : ℤ) (shut : Bool) → Called (opens name file) → lt_z file (pos 0) ≡ false → Brought most file bytes false → Called (closes file shut)
-      → Load name [] false
+  no_text : (IsUtf8 name → ⊥) → Load name [] false
+  unopened : Called (opens name None) → Load name [] false
+  opened : {bytes : List ℕ} (file : ℤ) → Called (opens name (Some file)) → Brought most file bytes true → Called (closes file) → Load name bytes true
+  broken : {bytes : List ℕ} (file : ℤ) → Called (opens name (Some file)) → Brought most file bytes false → Called (closes file) → Load name [] false

@@ -2,6 +2,8 @@
 // A round takes L = √x√y + √y√z + √z√x, adds scale / (√z (z + L)) to the sum, makes each argument and their mean (itself + L) / 4 and quarters the scale.
 // The invariant is the value of RD at the start: scale · RD(x, y, z) + 3 · sum (DLMF 19.26.20).
 // The distance between the mean and the farthest argument is quartered; once it is below mean / 1024 the series that RJ shares closes.
+#![tactic(auto)]
+
 ghost use Rattle.std.specs.Prelude.{◌≡◌};
 ghost use Rattle.rf.specs.Rf.{rf_of};
 ghost use Rattle.rd.specs.Rd.{start_of, stops_of, next_of, round_of, closed_of, finish_of, rd_of};

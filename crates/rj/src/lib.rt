@@ -4,6 +4,8 @@
 // The invariant is the value of RJ at the start: scale · RJ(x, y, z, p) + 6 · sum (DLMF 19.26.22, 19.26.23).
 // The distance between the mean and the farthest argument is quartered; once it is below mean / 1024 the series that RD shares closes.
 // RJ is met only where its own stop test and that of every RC inside are.
+#![tactic(auto)]
+
 ghost use Rattle.std.specs.Prelude.{◌≡◌, ◌*◌, ◌≤◌};
 ghost use Rattle.rf.specs.Rf.{rf_of};
 ghost use Rattle.rj.specs.Rj.{start_of, stops_of, next_of, round_of, closed_of, finish_of, rj_of};

@@ -1,0 +1,8 @@
+-- Two bytes set are the row with its times.
+use Rattle.ledger.specs.Sheet.{function_in}
+use Rattle.conversion.proofs.Turning.{turned_is}
+use Rattle.conversion.proofs.turn_row.Goals as goal
+
+pub returns : goal.returns
+unfolding function_in
+returns c = turned_is c.args.forth c.args.row.now _ c.requires c.times_after.ensures

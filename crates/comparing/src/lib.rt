@@ -1,4 +1,6 @@
 // Two sheet files compared: all that legdiff does (02, [5]). Lines are sent one after the other from one small buffer, so memory does not grow with them.
+#![tactic(auto)]
+
 ghost use Rattle.loading.specs.Notes.{cannot_read};
 ghost use Rattle.files.specs.Output.{Wrote};
 ghost use Rattle.differing.specs.Differing.{line_of, lines_of, end_of, refused_text};
@@ -6,104 +8,113 @@ ghost use Rattle.comparing.specs.Comparing.{compared_text, Done, Ran};
 
 use difference::Stop;
 use differing::LINE;
-use files::{Output, WORD};
+use files::{Output, Stream, WORD};
 use loading::MOST;
 
 // The line of a row that differs; nothing where it does not.
-fn send_line(out: Output, old: &[u8], new: &[u8], row: u32) -> Output
+fn send_line(rt: &HostRuntime, out: Output, old: &[u8], new: &[u8], row: u32) -> Output
     ensures { Wrote out (line_of old.now new.now row) result }
 {
     let mut line = [0u8; LINE];
     let n = differing::put_line(&mut line, old, new, row);
-    files::put(out, &line[0..n])
+    files::put(rt, out, &line[0..n])
 }
 
 // The lines of the first rows.
-fn send_lines(out: Output, old: &[u8], new: &[u8], rows: u32) -> Output
+fn send_lines(rt: &HostRuntime, out: Output, old: &[u8], new: &[u8], rows: u32) -> Output
     ensures { Wrote out (lines_of old.now new.now rows) result }
 {
     let mut sent = out;
     let mut i: u32 = 0;
     while i < rows {
-        sent = send_line(sent, old, new, i);
+        sent = send_line(rt, sent, old, new, i);
         i += 1;
     }
     sent
 }
 
 // The difference of the totals, and how many rows differ.
-fn send_end(out: Output, old: &[u8], new: &[u8]) -> Output
+fn send_end(rt: &HostRuntime, out: Output, old: &[u8], new: &[u8]) -> Output
     ensures { Wrote out (end_of old.now new.now) result }
 {
     let mut line = [0u8; LINE];
     let n = differing::put_end(&mut line, old, new);
-    files::put(out, &line[0..n])
+    files::put(rt, out, &line[0..n])
 }
 
 // Why the sheets are not compared, and the name of the file that it is about.
-fn send_refusal(out: Output, old: &[u8], new: &[u8], stop: Stop) -> Output
+fn send_refusal(rt: &HostRuntime, out: Output, old: &[u8], new: &[u8], stop: Stop) -> Output
     ensures { Wrote out (refused_text old.now new.now stop) result }
 {
     let mut line = [0u8; LINE];
     let n = differing::put_stop(&mut line, stop);
-    let sent = files::put(out, &line[0..n]);
+    let sent = files::put(rt, out, &line[0..n]);
     if stop.sheet == 1 {
-        return files::put(files::put(sent, old), b"\n");
+        return files::put(rt, files::put(rt, sent, old), b"\n");
     }
     if stop.sheet == 2 {
-        return files::put(files::put(sent, new), b"\n");
+        return files::put(rt, files::put(rt, sent, new), b"\n");
     }
-    files::put(sent, b"\n")
+    files::put(rt, sent, b"\n")
 }
 
 // Two sheets, or what refuses them: nothing is sent before every test has passed.
-fn compare(out: Output, first: &[u8], second: &[u8], old: &[u8], new: &[u8]) -> Output
+fn compare(
+    rt: &HostRuntime,
+    out: Output,
+    first: &[u8],
+    second: &[u8],
+    old: &[u8],
+    new: &[u8],
+) -> Output
     ensures { Wrote out (compared_text first.now second.now old.now new.now) result }
 {
     let stop = difference::stopped(old, new);
     if stop.refusal != 0 {
-        return send_refusal(out, first, second, stop);
+        return send_refusal(rt, out, first, second, stop);
     }
     let rows = ledger::rows_in(old) as u32;
-    let sent = send_lines(out, old, new, rows);
-    send_end(sent, old, new)
+    let sent = send_lines(rt, out, old, new, rows);
+    send_end(rt, sent, old, new)
 }
 
 // A file that can't be read.
-fn unread(program: &[u8], out: Output, name: &[u8]) -> Output
+fn unread(rt: &HostRuntime, program: &[u8], out: Output, name: &[u8]) -> Output
     ensures { Wrote out (cannot_read name.now) result }
 {
     files::tell(
+        rt,
         program,
         b": nothing was compared; look at the name, and whether that file may be read\n",
     );
-    loading::cannot_read(out, name)
+    loading::cannot_read(rt, out, name)
 }
 
 // Both files are read before either is tested.
-fn compare_files(program: &[u8], output: i32, old: &[u8], new: &[u8]) -> Output
+fn compare_files(rt: &HostRuntime, program: &[u8], output: Stream, old: &[u8], new: &[u8]) -> Output
     ensures { Done output old.now new.now result }
 {
     let mut first = [0u8; MOST];
     let mut second = [0u8; MOST];
     let out = files::begin(output);
-    let before = loading::load(old, &mut first);
-    let after = loading::load(new, &mut second);
+    let before = loading::load(rt, old, &mut first);
+    let after = loading::load(rt, new, &mut second);
     if !before.ok {
-        return unread(program, out, old);
+        return unread(rt, program, out, old);
     }
     if !after.ok {
-        return unread(program, out, new);
+        return unread(rt, program, out, new);
     }
     let n = before.length;
     let m = after.length;
-    compare(out, old, new, &first[0..n], &second[0..m])
+    compare(rt, out, old, new, &first[0..n], &second[0..m])
 }
 
 // What is said on standard error where the output could not be written.
-fn complain(program: &[u8], ok: bool) {
+fn complain(rt: &HostRuntime, program: &[u8], ok: bool) {
     if !ok {
         files::tell(
+            rt,
             program,
             b": the output could not be written, and what is there is cut off; run it again\n",
         );
@@ -111,17 +122,17 @@ fn complain(program: &[u8], ok: bool) {
 }
 
 // One run of the program of this name, which is called so.
-pub fn run(program: &[u8], call: &[u8], output: i32)
+pub fn run(rt: &HostRuntime, program: &[u8], call: &[u8], output: Stream)
     ensures { Ran output call.now }
 {
-    if files::word_count() != 3 {
-        files::usage(files::begin(output), call);
+    if files::word_count(rt) != 3 {
+        files::usage(rt, files::begin(output), call);
         return;
     }
     let mut old = [0u8; WORD];
     let mut new = [0u8; WORD];
-    let n = files::word(1, &mut old);
-    let m = files::word(2, &mut new);
-    let end = compare_files(program, output, &old[0..n], &new[0..m]);
-    complain(program, end.ok);
+    let n = files::word(rt, 1, &mut old);
+    let m = files::word(rt, 2, &mut new);
+    let end = compare_files(rt, program, output, &old[0..n], &new[0..m]);
+    complain(rt, program, end.ok);
 }

@@ -1,4 +1,8 @@
 // Two sheet files compared, row by row (02, [5]).
-fn main() {
-    comparing::run(b"legdiff", b"legdiff OLD NEW", libc::STDOUT_FILENO);
+#![tactic(auto)]
+
+use files::Stream;
+
+fn main(rt: HostRuntime) {
+    comparing::run(&rt, b"legdiff", b"legdiff OLD NEW", Stream::Stdout);
 }

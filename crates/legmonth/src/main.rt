@@ -1,4 +1,8 @@
 // The month's report of the sheet files that are named (02, [2]).
-fn main() {
-    reporting::run(b"legmonth", b"legmonth FILE...", libc::STDOUT_FILENO);
+#![tactic(auto)]
+
+use files::Stream;
+
+fn main(rt: HostRuntime) {
+    reporting::run(&rt, b"legmonth", b"legmonth FILE...", Stream::Stdout);
 }

@@ -13,12 +13,12 @@ use month::Report;
 use monthly::ROOM;
 
 // The report, as a page.
-pub(crate) fn put_page(out: Output, report: Report, apart: u64) -> Output
+pub(crate) fn put_page(rt: &HostRuntime, out: Output, report: Report, apart: u64) -> Output
     ensures { Wrote out (report_text apart report) result }
 {
     let mut page = [0u8; ROOM];
     let end = monthly::put_report(&mut page, report, apart);
-    files::put(out, &page[0..end])
+    files::put(rt, out, &page[0..end])
 }
 
 // The start of the line of a file that is not taken.
@@ -33,7 +33,7 @@ fn put_head(out: &mut [u8; ROOM], fate: Fate) -> usize
 }
 
 // The line of file n, if it has one. Names are not kept, so it is asked for again.
-fn put_file(out: Output, fate: Fate, n: u32) -> Output
+fn put_file(rt: &HostRuntime, out: Output, fate: Fate, n: u32) -> Output
     ensures { Told n fate out result }
 {
     if is_taken(fate) {
@@ -42,14 +42,19 @@ fn put_file(out: Output, fate: Fate, n: u32) -> Output
     let mut head = [0u8; ROOM];
     let mut name = [0u8; WORD];
     let end = put_head(&mut head, fate);
-    let length = files::word(n as usize, &mut name);
-    let a = files::put(out, &head[0..end]);
-    let b = files::put(a, &name[0..length]);
-    files::put(b, b"\n")
+    let length = files::word(rt, n as usize, &mut name);
+    let a = files::put(rt, out, &head[0..end]);
+    let b = files::put(rt, a, &name[0..length]);
+    files::put(rt, b, b"\n")
 }
 
 // The lines of the files that are not taken, in their order.
-pub(crate) fn put_files(out: Output, fates: [Fate; MOST_FILES], files: u32) -> Output
+pub(crate) fn put_files(
+    rt: &HostRuntime,
+    out: Output,
+    fates: [Fate; MOST_FILES],
+    files: u32,
+) -> Output
     requires { files ≤ most_files }
     ensures { ToldAll files (take files fates) out result }
 {
@@ -57,7 +62,7 @@ pub(crate) fn put_files(out: Output, fates: [Fate; MOST_FILES], files: u32) -> O
     let mut i: u32 = 0;
     while i < files {
         let fate = fates[i as usize];
-        sent = put_file(sent, fate, i + 1);
+        sent = put_file(rt, sent, fate, i + 1);
         i += 1;
     }
     sent

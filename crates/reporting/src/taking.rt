@@ -9,13 +9,13 @@ use loading::MOST;
 use month::Report;
 
 // File n of the call, read and added to the report.
-fn take_file(report: Report, n: u32) -> Step
+fn take_file(rt: &HostRuntime, report: Report, n: u32) -> Step
     ensures { Met n report result.report result.fate }
 {
     let mut name = [0u8; WORD];
     let mut sheet = [0u8; MOST];
-    let length = files::word(n as usize, &mut name);
-    let loaded = loading::load(&name[0..length], &mut sheet);
+    let length = files::word(rt, n as usize, &mut name);
+    let loaded = loading::load(rt, &name[0..length], &mut sheet);
     if !loaded.ok {
         return Step {
             report,
@@ -55,7 +55,7 @@ fn apart_on(apart: u64, fate: Fate) -> u64
 }
 
 // What comes of them all.
-pub(crate) fn gather(files: u32) -> Month
+pub(crate) fn gather(rt: &HostRuntime, files: u32) -> Month
     requires { files ≤ most_files }
     ensures took { Took files result.report (take files result.fates) }
     ensures apart_value { result.apart ≡ apart_of (take files result.fates) }
@@ -70,7 +70,7 @@ pub(crate) fn gather(files: u32) -> Month
     let mut apart: u64 = 0;
     let mut i: u32 = 0;
     while i < files {
-        let step = take_file(report, i + 1);
+        let step = take_file(rt, report, i + 1);
         let fate = step.fate;
         fates[i as usize] = fate;
         report = step.report;

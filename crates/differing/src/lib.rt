@@ -1,4 +1,6 @@
 // What legdiff prints: a line at a time at the start of a lent buffer, so that memory does not grow with the rows.
+#![tactic(auto)]
+
 mod change;
 mod side;
 

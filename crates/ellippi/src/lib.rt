@@ -1,5 +1,7 @@
 // The complete integral of the third kind, Π(n, m) = ∫ dϑ / ((1 - n sin²ϑ) √(1 - m sin²ϑ)) from 0 to π/2 (DLMF 19.2.8).
 // Domain: m ≤ 1, n ≠ 1; for n > 1 Cauchy's principal value. Arms and order of operations: ellippi.rs.
+#![tactic(auto)]
+
 ghost use Rattle.std.specs.Prelude.{◌≡◌};
 ghost use Rattle.ellippi.specs.Ellippi.{plain_term, from_rest_of, principal_of, weight_of, both_below_of, first_below_of, first_zero_of, diagonal_of, arms_of, counted_of};
 

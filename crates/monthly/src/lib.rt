@@ -1,4 +1,6 @@
 // What legmonth prints: the month's report, written into a lent buffer, and the start of the line of a file that is not taken.
+#![tactic(auto)]
+
 mod lines;
 
 ghost use Rattle.std.specs.Prelude.{◌+◌, ◌≤◌, length};

@@ -1,5 +1,7 @@
 // The incomplete integral of the second kind, E(φ, m) = ∫ √(1 - m sin²ϑ) dϑ from 0 to φ (DLMF 19.2.5).
 // Domain: m sin²φ < 1; m ≤ 1 where φ reaches beyond a quarter period. Steps are 01's, with 02's [7]; order of operations: ellipeinc.rs.
+#![tactic(auto)]
+
 ghost use Rattle.std.specs.Prelude.{◌≤◌, ◌≡◌};
 ghost use Rattle.ellipeinc.specs.Ellipeinc.{sign_of, itself_of, far_of, line_of, own_of, two_terms_from, two_terms_of, trusted_terms_of, below_of, above_of, recipe_of, with_periods_of, by_recipe_of, reduced_of, on_size_of, counted_of};
 

@@ -1,5 +1,7 @@
 // The incomplete integral of the first kind, F(φ, m) = ∫ dϑ / √(1 - m sin²ϑ) from 0 to φ (DLMF 19.2.4).
 // Domain: m sin²φ < 1; m < 1 where |φ| reaches π/2. Branches and order of operations: ellipf.rs.
+#![tactic(auto)]
+
 ghost use Rattle.std.specs.Prelude.{◌≡◌};
 ghost use Rattle.ellipf.specs.Ellipf.{signum_of, pole_of, far_of, middle_of, recipe_of, closed_of, with_periods_of, reduced_of, counted_of};
 

@@ -1,1 +1,2 @@
 // No code: what holds of the functions besides their definitions.
+#![tactic(auto)]

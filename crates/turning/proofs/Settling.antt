@@ -20,7 +20,7 @@ module _ (bytes to : List ℕ) (forth : Bool) (out end : Output) (stop : Stop) (
   pub settled_refused : (stop.refusal ≡ 0 → ⊥) → Wrote out (stop_line stop rows) end → Answered bytes to forth out end
   settled_refused h w = record {
     text = stop_line stop rows;
-    settled = refused (λ z. h (ap (λ (t : Stop). t.refusal) s ∙ z)) (λ i. stop_line (s i) (r i));
+    settled = refused (λ z. h (ap (λ (t : Stop). t.refusal) s ∙ z)) (ap (λ (t : Stop). stop_line t rows) s ∙ ap (stop_line (stop_of forth bytes)) r);
     wrote = w;
   }
 

@@ -1,87 +1,91 @@
 // A sheet file as hex text: all that legwrite does (02, [10]). Lines are sent one after the other from one small buffer, so memory does not grow with them.
+#![tactic(auto)]
+
 ghost use Rattle.files.specs.Output.{Wrote};
 ghost use Rattle.hexpage.specs.HexPage.{row_line, row_lines, count_line};
 ghost use Rattle.writing.specs.Writing.{written_text, Done, Ran};
 
-use files::{Output, WORD};
+use files::{Output, Stream, WORD};
 use hexpage::LINE;
 use loading::MOST;
 
 // The line with the row count.
-fn send_count(out: Output, sheet: &[u8]) -> Output
+fn send_count(rt: &HostRuntime, out: Output, sheet: &[u8]) -> Output
     ensures { Wrote out (count_line sheet.now) result }
 {
     let mut line = [0u8; LINE];
     let n = hexpage::put_count(&mut line, sheet);
-    files::put(out, &line[0..n])
+    files::put(rt, out, &line[0..n])
 }
 
 // A row's line.
-fn send_row(out: Output, sheet: &[u8], i: u32) -> Output
+fn send_row(rt: &HostRuntime, out: Output, sheet: &[u8], i: u32) -> Output
     ensures { Wrote out (row_line sheet.now i) result }
 {
     let mut line = [0u8; LINE];
     let n = hexpage::put_row(&mut line, sheet, i);
-    files::put(out, &line[0..n])
+    files::put(rt, out, &line[0..n])
 }
 
 // The lines of the first rows.
-fn send_rows(out: Output, sheet: &[u8], rows: u32) -> Output
+fn send_rows(rt: &HostRuntime, out: Output, sheet: &[u8], rows: u32) -> Output
     ensures { Wrote out (row_lines sheet.now rows) result }
 {
     let mut sent = out;
     let mut i: u32 = 0;
     while i < rows {
-        sent = send_row(sent, sheet, i);
+        sent = send_row(rt, sent, sheet, i);
         i += 1;
     }
     sent
 }
 
 // These bytes as text, or that they are no sheet.
-fn write(program: &[u8], out: Output, sheet: &[u8]) -> Output
+fn write(rt: &HostRuntime, program: &[u8], out: Output, sheet: &[u8]) -> Output
     ensures { Wrote out (written_text sheet.now) result }
 {
     if ledger::total_refusal(sheet) != 0 {
         files::tell(
+            rt,
             program,
             b": the file is no sheet; make one with legsheet FILE\n",
         );
-        return loading::refused_7(out);
+        return loading::refused_7(rt, out);
     }
     let rows = ledger::rows_in(sheet) as u32;
-    let sent = send_count(out, sheet);
-    send_rows(sent, sheet, rows)
+    let sent = send_count(rt, out, sheet);
+    send_rows(rt, sent, sheet, rows)
 }
 
 // The file of this name as text, or that it can't be read.
-fn write_file(program: &[u8], output: i32, name: &[u8]) -> Output
+fn write_file(rt: &HostRuntime, program: &[u8], output: Stream, name: &[u8]) -> Output
     ensures { Done output name.now result }
 {
     let mut file = [0u8; MOST];
     let out = files::begin(output);
-    let loaded = loading::load(name, &mut file);
+    let loaded = loading::load(rt, name, &mut file);
     if !loaded.ok {
         files::tell(
+            rt,
             program,
             b": the file could not be read; name a sheet file that is there\n",
         );
-        return loading::cannot_read(out, name);
+        return loading::cannot_read(rt, out, name);
     }
     let n = loaded.length;
-    write(program, out, &file[0..n])
+    write(rt, program, out, &file[0..n])
 }
 
 // One run of the program of this name, which is called so.
-pub fn run(program: &[u8], call: &[u8], output: i32)
+pub fn run(rt: &HostRuntime, program: &[u8], call: &[u8], output: Stream)
     ensures { Ran output call.now }
 {
-    if files::word_count() != 2 {
-        files::usage(files::begin(output), call);
+    if files::word_count(rt) != 2 {
+        files::usage(rt, files::begin(output), call);
         return;
     }
     let mut name = [0u8; WORD];
-    let n = files::word(1, &mut name);
-    let end = write_file(program, output, &name[0..n]);
-    ending::tell_cut(program, end);
+    let n = files::word(rt, 1, &mut name);
+    let end = write_file(rt, program, output, &name[0..n]);
+    ending::tell_cut(rt, program, end);
 }

@@ -1,5 +1,5 @@
 -- What the answers of ellipf can be, for every argument. Assumes nothing.
-use Rattle.std.specs.Prelude.{◌≤◌, [], ◌∷◌, Bool, true, not, ◌&&◌, ◌||◌, T, Float}
+use Rattle.std.specs.Prelude.{[], ◌∷◌, Bool, true, not, ◌&&◌, ◌||◌, T, Float}
 use Rattle.std.specs.Float.{binary64}
 use Rattle.std.specs.Float.Ieee.{fits, of_bits}
 use Rattle.std.specs.Float.Ieee.Fits.{mul-fits}

@@ -66,6 +66,8 @@ folded_small m e =
 
 pub folded_reach : (φ : Float) → T (finite φ) → T (magnitude_of (folded_of (magnitude_of φ)).angle ≤· 4·0)
 folded_reach (fin s m e) h = subst (λ (a : Float). T (magnitude_of (folded_of a).angle ≤· 4·0)) (sym (magnitude_fin s m e)) (folded_small m e)
+folded_reach nan h = elim h [ ]
+folded_reach (inf _) h = elim h [ ]
 
 -- ---- |φ| < π/2
 strict : (a b : ℕ) → (ltb a b || (eqb a b && (true || eqb a 0))) ≡ false → b < a

@@ -38,6 +38,8 @@ at_origin φ m h = ap answer (sym (held _ _ h refl))
 own-answer : (φ : Float) → T (finite φ) → itself_of φ ≡ One φ
 unfolding itself_of handed_of is_nan
 own-answer (fin s m e) h = sym (passed _ _ (differs_is (fin s m e)) refl)
+own-answer nan h = elim h [ ]
+own-answer (inf _) h = elim h [ ]
 
 pub no_parameter : (φ m : Float) → (φ =· +0) ≡ false → T (finite φ) → (m =· +0) ≡ true → ellipeinc_of φ m ≡ One φ
 unfolding ellipeinc_of counted_of

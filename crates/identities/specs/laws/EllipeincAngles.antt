@@ -1,7 +1,7 @@
 -- The other angle whose sine ellipeinc asks for is at most 4 in size too, so refusal 12 can't arise: |φ| - mm·π for |φ| ≤ 2^52 (step 7). Assumes nothing.
 use Rattle.std.specs.Prelude.{◌≡◌, refl, ℕ, ◌+◌, ◌*◌, ◌^◌, ◌≤◌, ◌<◌, false, ℤ, pos, T, Float}
 use Rattle.std.proofs.Common.{sym, ap, subst, le_trans, mul-pos, mul-le-mul_right, mul-lt-mul_of_pos_right, le_of_mul-le-mul_right, arith, lit≤, lit<, pow_pos}
-use Rattle.std.specs.Float.{fin, binary64}
+use Rattle.std.specs.Float.{nan, inf, fin, binary64}
 use Rattle.std.specs.Float.Ieee.{up, down, round, div, of_bits}
 use Rattle.std.specs.Float.Ieee.Fits.{down_pos}
 use Rattle.std.specs.Float.Ieee.Exact.{HasValue}
@@ -107,3 +107,5 @@ step_7 φ k h = go φ (within φ 1 (pos 52) (not-nan φ k) h) h
 
     go : (φ : Float) → T (finite φ) → (far_out <· magnitude_of φ) ≡ false → T (magnitude_of (line_rest (magnitude_of φ)) ≤· 4·0)
     go (fin s m e) f h = subst (λ (a : Float). T (magnitude_of (line_rest a) ≤· 4·0)) (sym (magnitude_fin s m e)) (line_small m e (plain (m * up e) (down e) (within-size s m e 1 (pos 52) h)))
+    go nan f h = elim f [ ]
+    go (inf _) f h = elim f [ ]

@@ -121,6 +121,8 @@ module _ (φ m : Float) (f : T (fits binary64 φ)) (k : (φ ≠· φ) ≡ false)
       go (fin s n e) t f h =
           let l = quarter n e (subst (λ (a : Float). (π/2 ≤· a) ≡ false) (magnitude_fin s n e) h) in
           subst (λ (a : Float). ((far_out <· a) ≡ false) × (folded_of a ≡ record { angle = a; mm = +0; s = 1·0 })) (sym (magnitude_fin s n e)) (near n e l, folded_itself n e (unsigned s n e f) l)
+      go nan t f h = elim t [ ]
+      go (inf _) t f h = elim t [ ]
 
   -- so the answer has no K in it
   pub without-k : (m ≠· m) ≡ false → (m =· +0) ≡ false → ellipf_of φ m ≡ unreduced_of φ m
@@ -147,6 +149,8 @@ neither a b e h = ap₂ (λ (a b : Bool). a || b) e h
 pub no_parameter : (φ m : Float) → T (finite φ) → (m =· +0) ≡ true → ellipf_of φ m ≡ One φ
 unfolding ellipf_of counted_of handed_of is_nan
 no_parameter (fin s n e) m f z = ap answer (sym (passed _ _ (neither _ _ (differs_is (fin s n e)) (zero_number m z)) (held _ _ z refl)))
+no_parameter nan m f z = elim f [ ]
+no_parameter (inf _) m f z = elim f [ ]
 
 -- ---- F(±∞, m) = ±∞ where m < 1
 pub at_infinity : (s : Bool) (m : Float) → (m ≠· m) ≡ false → (1·0 ≤· m) ≡ false → ellipf_of (inf s) m ≡ Infinite s
@@ -183,16 +187,19 @@ lost_mul (inf s) (fin t n d) h = either (eqb n 0)
     either : (b : Bool) → Lost (cond b nan (inf (unlike s t)))
     either true = tt
     either false = tt
+lost_mul (fin _ _ _) y h = elim h [ ]
 
 lost_from : (x : Float) → Lost x → Lost (1·0 ⊖ x)
 unfolding sub add neg of_bits
 lost_from nan h = tt
 lost_from (inf s) h = tt
+lost_from (fin _ _ _) h = elim h [ ]
 
 lost_over : (x : Float) → Lost x → Lost (x ⊘ λ4)
 unfolding div of_bits
 lost_over nan h = tt
 lost_over (inf s) h = tt
+lost_over (fin _ _ _) h = elim h [ ]
 
 lost_middle : (c c1 : Float) → Lost (middle_of -∞ c c1)
 unfolding middle_of
@@ -208,6 +215,7 @@ second_lost x y z h = go (finite x) (finite y) (finite z) h
     go : (a b c : Bool) → T (not b) → T (not (a && b && c))
     go true false c h = tt
     go false b c h = tt
+    go true true c h = elim h [ ]
 
 either_met : (b : Bool) (x y : Term) → x.met ≡ false → y.met ≡ false → (cond b x y).met ≡ false
 either_met true x y h k = h
@@ -247,6 +255,9 @@ not_three (fin false n e) h = go (eqb n 0)
     go : (b : Bool) → (1·0 ≤· cond b nan (inf true)) ≡ false
     go true = refl
     go false = refl
+not_three nan h = elim h [ ]
+not_three (inf true) h = elim h [ ]
+not_three (fin true n e) h = elim h [ ]
 
 square-three : (s : Float) → (1·0 ≤· -∞ ⊗ (s ⊗ s)) ≡ false
 unfolding mul plain

@@ -19,3 +19,4 @@ rc_unmet x y h = rc_lost x y (lost_div (x ⊕ y ⊕ y) _ _ _ (three x y y (twice
     twice : (a b : Bool) → Lost (a && b) → Lost (a && b && b)
     twice false b h = tt
     twice true false h = tt
+    twice true true h = elim h [ ]

@@ -2,7 +2,7 @@
 use Rattle.std.specs.Prelude.{◌≡◌, refl, Bool, true, false, ℕ, ◌+◌, ◌-◌, ◌*◌, ◌^◌, ◌≤◌, ◌<◌, Float}
 use Rattle.std.proofs.Common.{sym, ap, ◌∙◌, mul_assoc, mul-le-mul, arith, pow-add, pow_pos, pow_mono}
 use Rattle.std.proofs.Math.Nat.{eq_of_mul-eq-mul_right}
-use Rattle.std.specs.Float.{fin}
+use Rattle.std.specs.Float.{nan, inf, fin}
 use Rattle.std.specs.Float.Ieee.{down}
 use Rattle.std.specs.Float.Ieee.Fits.{down_pos}
 use Rattle.std.specs.Float.Ieee.Exact.{HasValue}
@@ -17,6 +17,8 @@ halves_unique n h l h' l' a b = let x = a.whole in let y = b.whole in let p = a.
 -- ---- the parts
 same-value : (x : Float) (s t : Bool) (a b c : ℕ) → 0 < c → HasValue x s a c → HasValue x t b c → (s ≡ t) × (a ≡ b)
 same-value (fin u m e) s t a b c C h k = (sym h.0 ∙ k.0, eq_of_mul-eq-mul_right (down e) (down_pos e) a b (sym h.1 ∙ k.1))
+same-value nan s t a b c C h k = elim h [ ]
+same-value (inf _) s t a b c C h k = elim h [ ]
 
 -- a smaller exponent would leave the larger one's leading digit no room
 no_smaller : (d e d' e' : ℕ) → d < 2 ^ 53 → 2 ^ 52 ≤ d' → e < e' → d * 2 ^ e ≡ d' * 2 ^ e' → ⊥

@@ -27,6 +27,7 @@ lost_add (inf s) (inf t) h = either (beq s t)
 lost_add (inf s) (fin t n d) h = tt
 lost_add (fin s m e) nan h = tt
 lost_add (fin s m e) (inf t) h = tt
+lost_add (fin s m e) (fin t n d) h = elim h [ ]
 
 lost_sub : (x y : Float) → Lost (finite x) → Lost (finite (x ⊖ y))
 unfolding sub
@@ -34,6 +35,7 @@ lost_sub x y h = lost_add x (neg y) (first (finite x) (finite (neg y)) h)
   where
     first : (a b : Bool) → Lost a → Lost (a && b)
     first false b h = tt
+    first true b h = elim h [ ]
 
 pub lost_mul : (x y : Float) → Lost (finite y) → Lost (finite (x ⊗ y))
 unfolding mul
@@ -46,11 +48,14 @@ lost_mul (fin s m e) (inf t) h = either (eqb m 0)
     either : (b : Bool) → Lost (finite (cond b nan (inf (unlike s t))))
     either true = tt
     either false = tt
+lost_mul (inf s) (fin _ _ _) h = elim h [ ]
+lost_mul (fin s m e) (fin _ _ _) h = elim h [ ]
 
 pub lost_div : (x : Float) (t : Bool) (n : ℕ) (d : ℤ) → Lost (finite x) → Lost (finite (x ⊘ fin t n d))
 unfolding div
 lost_div nan t n d h = tt
 lost_div (inf s) t n d h = tt
+lost_div (fin _ _ _) t n d h = elim h [ ]
 
 -- one term in place of another
 pub both : (p q r s : Bool) → (Lost p → Lost r) → (Lost q → Lost s) → Lost (p && q) → Lost (r && s)
@@ -58,6 +63,7 @@ both p q false s f g h = tt
 both p q true false f g h = tt
 both false q true true f g h = f tt
 both true false true true f g h = g tt
+both true true true true f g h = elim h [ ]
 
 -- three terms
 pub three : (x y z : Float) → Lost (finite x && finite y && finite z) → Lost (finite (x ⊕ y ⊕ z))
@@ -73,6 +79,7 @@ far_magnitude : (x : Float) → Lost (finite x) → T (far (magnitude_of x))
 unfolding magnitude_of
 far_magnitude nan h = tt
 far_magnitude (inf s) h = tt
+far_magnitude (fin _ _ _) h = elim h [ ]
 
 pub far_larger : (a b : Float) → T (far a) → T (far b) → T (far (larger_of a b))
 unfolding larger_of
@@ -86,6 +93,8 @@ pub far-quarter : (q : Float) → T (far q) → T (far (q ⊘ 4·0))
 unfolding div of_bits
 far-quarter nan h = tt
 far-quarter (inf false) h = tt
+far-quarter (inf true) h = elim h [ ]
+far-quarter (fin _ _ _) h = elim h [ ]
 
 pub far-below : (q z : Float) → T (far q) → (q <· z) ≡ false
 unfolding lt
@@ -93,6 +102,8 @@ far-below nan z h = refl
 far-below (inf false) nan h = refl
 far-below (inf false) (inf t) h = refl
 far-below (inf false) (fin t n d) h = refl
+far-below (inf true) z h = elim h [ ]
+far-below (fin _ _ _) z h = elim h [ ]
 
 -- the distance between an infinite or NaN mean and any argument
 pub far_apart : (mean x : Float) → Lost (finite mean) → T (far (magnitude_of (mean ⊖ x)))

@@ -51,6 +51,8 @@ small_of k j x f n e h = go x (within x 1 (pos k) n h) f h
         let d = digits (fin s m e') g f in
         let u = d.lead * 2 ^ d.place in
         record { sign = d.sign; units = u; value = d.value; most = most-units (m * up e') (down e') u (2 ^ k) (2 ^ 1074) (2 ^ j) (down_pos e') (ap (λ (z : ℕ). 2 ^ z) (sym e) ∙ pow-add 2 k 1074) d.value.1 (plain (m * up e') (down e') (2 ^ k) (within-size s m e' 1 (pos k) h)) }
+    go nan g f h = elim g [ ]
+    go (inf _) g f h = elim g [ ]
 
 -- ---- a sine whose square is below 2 ^ -201 has a C above 2 ^ 200
 over : (huge <· inf false) ≡ true
@@ -180,6 +182,8 @@ one_less f v = let r = ranged_sub 1020 (lit< tt) (lit< tt) (lit≤ tt) tt f (loo
 infinite_none : (x : Float) → T (finite x) → infinite_of x ≡ false
 unfolding infinite_of
 infinite_none (fin s m e) h = refl
+infinite_none nan h = elim h [ ]
+infinite_none (inf _) h = elim h [ ]
 
 tiny_sine : {sine : Float} → Small 1156 sine → infinite_of (c_of sine) ≡ true → Small 563 sine
 tiny_sine {sine} S h = go (lt-or-le S.units (2 ^ 563))

@@ -2,7 +2,7 @@
 use Rattle.std.specs.Prelude.{◌≡◌, refl, ◌⊎◌, Bool, true, false, cond, ◌||◌, ℕ, ◌+◌, ◌*◌, ◌%◌, ◌^◌, ◌≤◌, ◌<◌, ℤ, T, ltb, Float}
 use Rattle.std.proofs.Common.{sym, ◌∙◌, subst, inl, inr, true≢false, le_trans, le_of_eq, le_of_lt, lt_of_le_of_lt, mul_assoc, mul_right_comm, mul-pos, mul-le-mul_right, mod-lt, arith, lt→ltb, lit≤, lit<, pow_pos}
 use Rattle.std.proofs.Math.Pow.{pow-lt}
-use Rattle.std.specs.Float.{fin, binary64}
+use Rattle.std.specs.Float.{nan, inf, fin, binary64}
 use Rattle.std.specs.Float.Ieee.{up, down, round, rem, of_bits, below}
 use Rattle.std.specs.Float.Ieee.Bits.{is_true}
 use Rattle.std.specs.Float.Ieee.Exact.{HasValue}
@@ -81,6 +81,8 @@ unfolding folded_of
 folded_narrow (fin s m e) h =
     subst (λ (a : Float). Narrow (folded_of a).angle) (sym (magnitude_fin s m e))
     (either (½ <· round_of ((fin false m e ⊖ fin false m e %% π/2) ⊘ π/2) %% 2·0) _ _ (left_narrow m e) (rest_narrow m e))
+folded_narrow nan h = elim h [ ]
+folded_narrow (inf _) h = elim h [ ]
 
 -- ---- an angle below 2^-33 stands for its own integral where |m| ≤ 2^12
 below-ε : (x : Float) → Small 1020 x → (x <· ε) ≡ true

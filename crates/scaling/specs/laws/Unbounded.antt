@@ -18,6 +18,10 @@ sum-nan (fin s m e) z = refl
 sum-inf : (b : Bool) (x z : Float) → T (finite x) → T (finite z) → x ⊕ inf b ⊕ z ≡ inf b
 unfolding add
 sum-inf b (fin s m e) (fin t n d) h k = refl
+sum-inf b nan z h k = elim h [ ]
+sum-inf b (inf _) z h k = elim h [ ]
+sum-inf b (fin s m e) nan h k = elim k [ ]
+sum-inf b (fin s m e) (inf _) h k = elim k [ ]
 
 -- it goes through the constants
 inf_over : (b : Bool) → (inf b ⊘ 4·0 ≡ inf b) × (inf b ⊘ 3·0 ≡ inf b) × (4·0 ⊗ inf b ≡ inf b)
@@ -55,6 +59,8 @@ product_unbounded (inf s) (fin t n d) h k = go (eqb n 0)
     go true = tt
     go false = tt
 product_unbounded (fin s m e) y h k = absurd h
+product_unbounded (inf s) nan h k = elim k [ ]
+product_unbounded (inf s) (inf _) h k = elim k [ ]
 
 pub rest_unbounded : (y : Float) → T (not (finite y)) → T (not (finite (1·0 ⊖ y)))
 unfolding sub neg add of_bits

@@ -1,0 +1,13 @@
+-- The body is the definition, each call replaced by what it ensures.
+use Rattle.ellipeinc.specs.Ellipeinc.{two_terms_of}
+use Rattle.ellipeinc.proofs.Few.{both_few}
+use Rattle.ellipeinc.proofs.two_terms.Goals as goal
+
+pub terms_from-requires : goal.terms_from-requires
+terms_from-requires c = both_few _ _ _ c.with_rf-both.ensures
+
+pub returns : goal.returns
+unfolding two_terms_of
+returns c =
+    let both = c.with_rf-both.ensures in
+    rw (c.terms_from.ensures, both.0, both.1)

@@ -1,5 +1,7 @@
 // The leg sheet (01): the functions by their numbers, and its edits, in bytes that the caller lends: a row worked out by the function of its number, and put in
 // its place. Each call answers for any bytes; a refused edit changes none.
+#![tactic(auto)]
+
 ghost use Rattle.std.specs.Prelude.{◌≡◌};
 ghost use Rattle.sheet.specs.Edit.{edit_refusal, edit_of};
 

@@ -1,4 +1,6 @@
 // A row of the sheet cleared (01): an edit to function 0.
+#![tactic(auto)]
+
 ghost use Rattle.std.specs.Prelude.{◌≡◌};
 ghost use Rattle.sheet.specs.Edit.{edit_refusal, edit_of};
 ghost use Rattle.clearing.specs.Clear.{cleared};

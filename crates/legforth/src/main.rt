@@ -1,4 +1,8 @@
 // From a sheet file that says 1 to one that says 3 (02, [9]).
-fn main() {
-    turning::run(b"legforth", b"legforth OLD NEW", libc::STDOUT_FILENO, true);
+#![tactic(auto)]
+
+use files::Stream;
+
+fn main(rt: HostRuntime) {
+    turning::run(&rt, b"legforth", b"legforth OLD NEW", Stream::Stdout, true);
 }

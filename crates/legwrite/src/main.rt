@@ -1,4 +1,8 @@
 // A sheet file as hex text (02, [10]).
-fn main() {
-    writing::run(b"legwrite", b"legwrite FILE", libc::STDOUT_FILENO);
+#![tactic(auto)]
+
+use files::Stream;
+
+fn main(rt: HostRuntime) {
+    writing::run(&rt, b"legwrite", b"legwrite FILE", Stream::Stdout);
 }

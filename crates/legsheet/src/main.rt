@@ -1,29 +1,39 @@
 // The leg sheet's program: standard input to standard output, and to the file that its call names.
-use files::WORD;
-use libc::{STDIN_FILENO, STDOUT_FILENO};
+#![tactic(auto)]
 
-fn to_file() {
+use files::{Source, Stream, WORD};
+
+fn to_file(rt: &HostRuntime) {
     let mut name = [0u8; WORD];
-    let n = files::word(1, &mut name);
+    let n = files::word(rt, 1, &mut name);
     runner::run(
+        rt,
         b"legsheet",
-        STDIN_FILENO,
-        STDOUT_FILENO,
+        Source::Standard,
+        Stream::Stdout,
         true,
         &name[0..n],
         b"",
     );
 }
 
-fn main() {
-    let words = files::word_count();
+fn main(rt: HostRuntime) {
+    let words = files::word_count(&rt);
     if words == 1 {
-        runner::run(b"legsheet", STDIN_FILENO, STDOUT_FILENO, false, b"", b"");
+        runner::run(
+            &rt,
+            b"legsheet",
+            Source::Standard,
+            Stream::Stdout,
+            false,
+            b"",
+            b"",
+        );
         return;
     }
     if words == 2 {
-        to_file();
+        to_file(&rt);
         return;
     }
-    files::usage(files::begin(STDOUT_FILENO), b"legsheet [FILE]");
+    files::usage(&rt, files::begin(Stream::Stdout), b"legsheet [FILE]");
 }

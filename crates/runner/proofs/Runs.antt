@@ -11,15 +11,9 @@ use Rattle.ending.specs.Outcome.{ended_of}
 use Rattle.runner.specs.Run.{zeros}
 use Rattle.runner.specs.Machine.{longest, Room, room, start_of, fixing_of, finish_of, Begins}
 use Rattle.text.specs.laws.Writing.{front}
-use Rattle.files.specs.Calls.{read}
-use Rattle.runner.specs.Reads.{Next, last, go_on, spent, most_reads, OneRead, SomeReads}
+use Rattle.runner.specs.Reads.{last, go_on, spent, most_reads, OneRead, SomeReads}
 use Rattle.runner.specs.laws.Whole.{all_four}
 use Rattle.runner.specs.Done.{begun_of, all_taken, Took, SomeRun, saves, Savable}
-
--- the answer as it was, after it was passed on
-pub as_answered : {w v : Room} {got answer : ℤ} {buffer : List ℕ} {more failed : Bool} → got ≡ answer → Next w (read got buffer) v more failed
-    → Next w (read answer buffer) v more failed
-as_answered e led = rw (← e) led
 
 module _ {input : ℤ} {n k : ℕ} {w v : Room} {more failed : Bool} (e : n ≡ suc k) (r : OneRead input n w v more failed) where
   -- reading does not go on after it

@@ -6,20 +6,26 @@ use crate::reading::Turn;
 use page::LARGEST;
 
 // The one call that saves a file: with the bytes of a run that was read to its end and had no bad line.
-fn save_sheet(name: &[u8], bytes: &[u8]) -> bool
+fn save_sheet(rt: &HostRuntime, name: &[u8], bytes: &[u8]) -> bool
     requires { Savable bytes.now }
     ensures { Save name.now bytes.now result }
 {
-    files::save(name, bytes)
+    files::save(rt, name, bytes)
 }
 
 // The sheet is saved where there is a file for it, and false where it could not be.
-pub(crate) fn keep(filed: bool, name: &[u8], end: Turn, sheet: &[u8; LARGEST]) -> bool
+pub(crate) fn keep(
+    rt: &HostRuntime,
+    filed: bool,
+    name: &[u8],
+    end: Turn,
+    sheet: &[u8; LARGEST],
+) -> bool
     requires { SomeRun end.st sheet.now end.failed }
     ensures { Keep filed name.now end.failed end.st sheet.now result }
 {
     if filed & (!end.failed & (!end.st.bad & !(end.st.lines == 0))) {
-        return save_sheet(name, ending::bytes(end.st, sheet));
+        return save_sheet(rt, name, ending::bytes(end.st, sheet));
     }
     true
 }

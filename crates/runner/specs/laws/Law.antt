@@ -2,7 +2,7 @@
 -- whole input (Run.antt), which is 01's "The program reads standard input". `start_of`, `fixing_of`, `feed_of`, `finish_of` and `ended_of` are the definitions that the
 -- contracts of the calls `start`, `fixing`, `feed`, `finish` and of those of `ending` cite, so this speaks of what the code does between a read and a write. What is printed, and
 -- what is saved, follow from what a run comes to. Assumes nothing.
-use Rattle.std.specs.Prelude.{◌≡◌, ℕ, ◌+◌, ◌^◌, ◌<◌, true, false, List, [], ◌∷◌, ◌++◌, length, take, refl}
+use Rattle.std.specs.Prelude.{◌≡◌, ℕ, ◌^◌, ◌<◌, true, false, List, [], ◌∷◌, ◌++◌, length, take, refl}
 use Rattle.std.proofs.Common.{ap, ◌∙◌}
 use Rattle.text.specs.Writing.{Put}
 use Rattle.text.specs.laws.Writing.{front}

@@ -1,10 +1,9 @@
 -- THE WHOLE PROGRAM. What a run of reads comes to, what is written of it and what is saved of it are those of the bytes that the reads brought, however they were
 -- cut. Assumes nothing.
-use Rattle.std.specs.Prelude.{◌≡◌, ℕ, zero, suc, ◌+◌, ◌^◌, ◌<◌, ◌≤◌, Bool, true, false, cond, not, ◌&&◌, ltb, List, [], ◌∷◌, ◌++◌, length, take, ℤ, pos, negsuc, ◌==◌, int_lt, nat_lt}
+use Rattle.std.specs.Prelude.{◌≡◌, ℕ, zero, suc, ◌+◌, ◌^◌, ◌<◌, ◌≤◌, Bool, true, false, cond, not, ◌&&◌, ltb, List, [], ◌∷◌, ◌++◌, length, take, ℤ, Option, Some, None, is_none, ◌==◌, nat_lt}
 use Rattle.std.proofs.Math.Path.{refl, ap}
-use Rattle.std.proofs.Common.{sym, ◌∙◌, add-zero, arith, length-append, ltb-true, lt-ltb, ne_eqb}
+use Rattle.std.proofs.Common.{sym, ◌∙◌, add-zero, arith, length-append, lt-ltb, ne_eqb}
 use Rattle.std.proofs.lemmas.Bool.{not-true}
-use Rattle.io.specs.Counts.{clamp_len}
 use Rattle.ledger.specs.Calls.{rows_in, is_sheet_of, is_sheet}
 use Rattle.page.specs.Page.{failed_line, page_of}
 use Rattle.ending.specs.declared.outcome.State.{State}
@@ -14,7 +13,7 @@ use Rattle.runner.specs.Machine.{Room, room, feed_of, feed_all, finish_of, outco
 use Rattle.runner.specs.laws.Law.{program_law, stopped_law}
 use Rattle.runner.specs.laws.Parts.{taken_law}
 use Rattle.files.specs.Calls.{Read}
-use Rattle.files.specs.Reads.{brought_of, failed_of, input_of}
+use Rattle.files.specs.Reads.{count_of, brought_of, failed_of, input_of}
 use Rattle.runner.specs.Reads.{goes_on, Next, Reads, last, go_on, spent}
 use Rattle.runner.specs.Done.{begun_of, all_taken, Ran, saves}
 use Rattle.line.specs.Line.{line_ends}
@@ -70,9 +69,9 @@ ends_few (b ∷ s) = by (b == 10) (ends_few s) where
 none_brought : (r : Read) → failed_of r ≡ true → brought_of r ≡ []
 unfolding failed_of brought_of
 none_brought r e = by r.got e where
-  by : (z : ℤ) → int_lt z (pos 0) ≡ true → take (clamp_len z (length r.buffer)) r.buffer ≡ []
-  by (pos n) e = absurd (omega (arith, ltb-true n 0 e))
-  by (negsuc n) e = refl
+  by : (g : Option ℕ) → is_none g ≡ true → take (count_of g (length r.buffer)) r.buffer ≡ []
+  by None e = refl
+  by (Some k) e = cc
 
 still_good : (a b : Bool) → (a && not b) ≡ true → b ≡ false
 still_good true b e = not-true b e
@@ -83,7 +82,7 @@ gone_on : {w v : Room} {r : Read} {no : Bool} → Next w r v true no → w.st.li
     → (v.st.bad ≡ false) × (v.st.lines ≡ w.st.lines + line_ends (brought_of r))
 unfolding goes_on
 gone_on {w} {v} {r} l few =
-    let good : v.st.bad ≡ false = still_good (nat_lt 0 (length (brought_of r))) v.st.bad (sym l.goes_on) in
+    let good : v.st.bad ≡ false = still_good (nat_lt 0 (length (brought_of r))) v.st.bad (sym l.goes_on_lem) in
     let same = l.fed in
     (good, ap (λ (u : Room). u.st.lines) same ∙ counted (brought_of r) w (sym (ap (λ (u : Room). u.st.bad) same) ∙ good) few)
 

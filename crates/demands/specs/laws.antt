@@ -1,4 +1,4 @@
--- The nearest root, for demand 2 (Root). Which sort each argument is (Sorts). Why demand 3 holds: numbers of a sheet, what a row says, rows in bytes, their counts and sum, the sheet of rows, the whole total, lists of edits, shuffles of them, untouched bytes.
+-- The nearest root, for demand 2 (Root). Which sort each argument is (Sorts). Why demand 3 holds: numbers of a sheet, what a row says, rows in bytes, their counts and sum, the sheet of rows, the whole total, untouched bytes; lists of edits and shuffles of them are in proofs/.
 pub mod Root
 pub mod Sorts
 pub mod Numbers
@@ -9,5 +9,3 @@ pub mod Tally
 pub mod Encoded
 pub mod Whole
 pub mod Untouched
-pub mod Runs
-pub mod Shuffled

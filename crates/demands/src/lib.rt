@@ -1,1 +1,2 @@
 // No code: demand 3, stated over the definitions that the public contracts of `sheet` cite.
+#![tactic(auto)]

@@ -21,6 +21,8 @@ value-lt (fin false (suc m) e) s n p f h =
     lt_of_mul-lt-mul_right (down e)
     (lt_of_le_of_lt (le_of_eq (sym h.1))
     (lt_of_lt_of_le (mul-lt-mul_of_pos_right (fits_bounds binary64 false m e f).2 (pow_pos 1074)) (le_of_eq (mul_right_comm (2 ^ 1024) (down e) (2 ^ 1074)))))
+value-lt lib.Ieee.nan s n p f h = elim p [ ]
+value-lt (lib.Ieee.inf _) s n p f h = elim p [ ]
 
 -- the root of a finite value never overflows
 kept_small : (n : ℕ) → n < 2 ^ 1024 * 2 ^ 1074 → kept (n * 2 ^ 1074) * 2 ^ dropped (n * 2 ^ 1074) < overflow binary64

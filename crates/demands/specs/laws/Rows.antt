@@ -1,5 +1,5 @@
 -- Rows one after the other: where a row lies in their bytes, and one row put in another's place. Assumes nothing.
-use Rattle.std.specs.Prelude.{◌≡◌, refl, true, List, [], ◌∷◌, ◌++◌, ℕ, zero, suc, ◌+◌, ◌-◌, ◌*◌, ◌^◌, ◌<◌, length, take, drop, get_or, set}
+use Rattle.std.specs.Prelude.{◌≡◌, refl, true, List, [], ◌∷◌, ◌++◌, ℕ, zero, suc, ◌+◌, ◌*◌, ◌^◌, ◌<◌, length, take, drop, get_or, set}
 use Rattle.std.proofs.Common.{ap, ◌∙◌, sym, append_assoc, mul-suc, add_comm, le_of_suc-le-suc, not-suc-le-zero, arith, length-append, take_at, drop_at}
 use Rattle.ledger.specs.Sheet.{Row, flat, times_in, sound}
 use Rattle.laws.specs.laws.Splices.{take_past, drop_past}

@@ -1,6 +1,6 @@
 -- Which sort each argument is (01: amplitude, characteristic and parameter are three sorts of number). The three are three types in a statement as they
--- are in a call: where one belongs, another is refused. Assumes nothing.
-use Rattle.std.specs.Prelude.{◌≡◌, refl, ℕ}
+-- are in a call: where one belongs, another is refused. Shown in proofs/Sorts.
+use Rattle.std.specs.Prelude.{◌≡◌, ℕ}
 use Rattle.laws.specs.Arithmetic.{float}
 use Rattle.answer.specs.declared.Answer.{Answer}
 use Rattle.answer.specs.declared.Amplitude.{Amplitude}
@@ -12,7 +12,7 @@ use Rattle.legendre.specs.Ellipke.{ellipke_of}
 use Rattle.ellippi.specs.Ellippi.{ellippi_of}
 use Rattle.ellipeinc.specs.Ellipeinc.{ellipeinc_of}
 use Rattle.ellipf.specs.Ellipf.{ellipf_of}
-use Rattle.sheet.specs.Functions.{counted_of, evaluate_of}
+use Rattle.sheet.specs.Functions.{evaluate_of}
 
 abbrev amplitude : ℕ → Amplitude
 amplitude p = record { 0 = float p }
@@ -49,7 +49,3 @@ pub record Sorts (a b c : ℕ) : Type 0 where
   pub third : evaluate_of 4 a b c ≡ pi (characteristic a) (parameter b)
   pub incomplete : evaluate_of 5 a b c ≡ einc (amplitude a) (parameter b)
   pub incomplete_first : evaluate_of 6 a b c ≡ f (amplitude a) (parameter b)
-
-pub sorts : (a b c : ℕ) → Sorts a b c
-unfolding evaluate_of counted_of ellippi_of ellipeinc_of ellipf_of
-sorts a b c = record { first = refl; second = refl; both = refl; third = refl; incomplete = refl; incomplete_first = refl }

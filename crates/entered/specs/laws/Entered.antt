@@ -11,7 +11,7 @@ use Rattle.line.specs.Line.{decimal_of, cut, line_of}
 use Rattle.ledger.specs.Sheet.{most_rows, size_for, blank_row, encode}
 use Rattle.ledger.specs.Calls.{blank_refusal, blank_of}
 use Rattle.demands.specs.Edits.{Edit, answer, after, run, answer_in, accepted, fresh, blanks}
-use Rattle.demands.specs.Demand3.{demand_3}
+use Rattle.demands.proofs.Demand3.{demand_3}
 use Rattle.text.specs.Text.{decimal}
 use Rattle.page.specs.Page.{page_of, bad_line}
 use Rattle.ending.specs.Outcome.{Outcome, Start, Sheet, Bad, printed}

@@ -7,8 +7,8 @@ use Rattle.ledger.specs.Sheet.{Row, most_rows, size_for, blank_row, encode}
 use Rattle.ledger.specs.Calls.{blank_refusal, blank_of}
 use Rattle.ledger.specs.laws.Refusals.{makeable}
 use Rattle.demands.specs.Edits.{Edit, run, fresh, blanks}
-use Rattle.demands.specs.Demand3.{demand_3}
-use Rattle.demands.specs.laws.Runs.{fresh-length}
+use Rattle.demands.proofs.Demand3.{demand_3}
+use Rattle.demands.proofs.Runs.{fresh-length}
 use Rattle.hexpage.specs.HexPage.{text_of}
 use Rattle.hextext.specs.HexText.{fine, came, text_into}
 use Rattle.hexkept.specs.Entered.{AllEntered, AllFit}

@@ -22,7 +22,7 @@ use Rattle.demands.specs.Edits.{blanks}
 use Rattle.demands.specs.laws.Stored.{times_row_of}
 use Rattle.demands.specs.laws.Rows.{Good, Rows, none, more}
 use Rattle.demands.specs.laws.Encoded.{answers, edit_rows}
-use Rattle.demands.specs.laws.Runs.{rows_worked, blanks-worked}
+use Rattle.demands.proofs.Runs.{rows_worked, blanks-worked}
 use Rattle.hexfloat.specs.Reading.{before}
 use Rattle.hexline.specs.Parts.{part_at, next_of}
 use Rattle.hexline.specs.Fields.{value_in}

@@ -7,8 +7,9 @@ use Rattle.ledger.specs.Sheet.{Row, most_rows, encode}
 use Rattle.ledger.specs.Calls.{blank_refusal, blank_of}
 use Rattle.demands.specs.Edits.{Edit, blanks, AllWorked}
 use Rattle.demands.specs.Shuffles.{Shuffle, Shuffled}
-use Rattle.demands.specs.Demand3.{Demand3, demand_3, demand_3_from}
-use Rattle.demands.specs.laws.Shuffled.{fresh-same, told_in, told-own, reordered}
+use Rattle.demands.specs.Demand3.{Demand3}
+use Rattle.demands.proofs.Demand3.{demand_3, demand_3_from}
+use Rattle.demands.proofs.Shuffled.{fresh-same, told_in, told-own, reordered}
 
 of_demand_3 : (s : List ℕ) (ws : List Row) → Demand3 s ws → (es fs : List Edit) → Shuffle es fs → Shuffled s es fs
 of_demand_3 s ws d es fs h = record {

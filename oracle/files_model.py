@@ -26,6 +26,12 @@ class Input:
         return every[:-1] if self.fails or every[-1] == b'' else every
 
 
+def is_text(name):
+    try: name.decode()
+    except UnicodeDecodeError: return False
+    return True
+
+
 class World:
     """The folder that a program runs in, by relative paths: files, folders in it, links, and modes where they matter (b'.' is the folder itself)."""
     def __init__(self, files=(), folders=(), links=(), modes=()):
@@ -34,8 +40,8 @@ class World:
     def place(self, name): return os.path.normpath(name)
 
     def is_path(self, name):
-        """Whether the system takes it for the path of a file."""
-        return 0 < len(name) <= LONGEST_PATH and all(len(part) <= LONGEST_NAME for part in name.split(b'/')) and not name.endswith(b'/')
+        """Whether it is taken for the path of a file: by the system, and by the kit's std, for which a name is UTF-8 text (docs/PORT.md)."""
+        return is_text(name) and 0 < len(name) <= LONGEST_PATH and all(len(part) <= LONGEST_NAME for part in name.split(b'/')) and not name.endswith(b'/')
 
     def read(self, name):
         """A file's bytes, at least so many that a sheet can be told; None where it can't be opened or read."""

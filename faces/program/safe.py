@@ -130,7 +130,8 @@ def failing(run, calls, n):
         came = sum(c[2] for c in calls[:n - 1] if c[1] == 'input')
         return [files_model.ran(run.program, run.words, run.world, Input(run.given.text[:came], True))]
     if what == 'create': return [plain, none]  # another name may be tried
-    if what in ('write', 'sync', 'close', 'rename'): return [none]
+    if what == 'close': return [plain]  # the bytes have reached the disk by then, and std tells of no close that fails (docs/PORT.md)
+    if what in ('write', 'sync', 'rename'): return [none]
     return [plain]
 
 

@@ -1,3 +1,2 @@
--- Why the two ways are right.
+-- Why the two ways are right, of any sheet.
 pub mod Sheets
-pub mod Made

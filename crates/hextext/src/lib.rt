@@ -1,5 +1,7 @@
 // Hex text read into a lent sheet (02, [10]): line 1 makes it blank, and each further line is one edit, whose refusal and answers must be those worked out. The first line that
 // fails ends it.
+#![tactic(auto)]
+
 mod count;
 mod row;
 

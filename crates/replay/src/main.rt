@@ -1,8 +1,10 @@
 // Replays a script of calls (oracle/sheet_model.py) from standard input on the library, and prints how many answers were wrong.
+#![tactic(auto)]
+
 ghost use Rattle.std.specs.Prelude.{◌≡◌, ◌≤◌, length};
 
 use calls::{call, is_kept, keep};
-use libc::STDOUT_FILENO;
+use files::Source;
 use script::word;
 
 mod calls;
@@ -129,13 +131,12 @@ fn feed_all(st: State, part: &[u8], line: &mut [u8], buffer: &mut [u8]) -> State
     s
 }
 
-fn say(st: State) {
-    io::print_decimal(STDOUT_FILENO, st.lines);
-    io::write_all(STDOUT_FILENO, b" lines, ");
-    io::print_decimal(STDOUT_FILENO, st.wrong);
-    io::write_all(STDOUT_FILENO, b" wrong, the first ");
-    io::print_decimal(STDOUT_FILENO, st.first);
-    io::write_all(STDOUT_FILENO, b"\n");
+fn say(rt: &HostRuntime, st: State) {
+    println!(rt;
+        "{} lines, {} wrong, the first {}",
+        st.lines, st.wrong, st.first
+    )
+    .is_ok();
 }
 
 #[derive(Clone, Copy)]
@@ -145,16 +146,16 @@ pub struct Read {
 }
 
 // One read, and what it brings.
-fn turn(st: State, line: &mut [u8], buffer: &mut [u8]) -> Read
+fn turn(rt: &HostRuntime, number: u64, st: State, line: &mut [u8], buffer: &mut [u8]) -> Read
     requires { (length buffer.old ≡ 99328) × (st.length ≤ 49664) × (length line.old ≡ 256) × (st.held ≤ 256) }
     ensures { (result.st.length ≤ 49664) × (result.st.held ≤ 256) }
 {
-    let mut part = io::buffer();
-    let got = libc::read(0, &mut part);
-    if got <= 0 {
+    let mut part = [0u8; 4096];
+    let got = files::call_read(rt, Source::Standard, number, &mut part);
+    let n = files::count(got, &part);
+    if n == 0 {
         return Read { st, more: false };
     }
-    let n = io::count(got, &part);
     let next = feed_all(st, &part[..n], line, buffer);
     Read {
         st: next,
@@ -162,7 +163,7 @@ fn turn(st: State, line: &mut [u8], buffer: &mut [u8]) -> Read
     }
 }
 
-fn run(line: &mut [u8], buffer: &mut [u8]) -> State
+fn run(rt: &HostRuntime, line: &mut [u8], buffer: &mut [u8]) -> State
     requires { (length buffer.old ≡ 99328) × (length line.old ≡ 256) }
 {
     let mut st = State {
@@ -176,7 +177,7 @@ fn run(line: &mut [u8], buffer: &mut [u8]) -> State
     let mut turns = u64::MAX;
     while turns > 0 {
         turns -= 1;
-        let t = turn(st, line, buffer);
+        let t = turn(rt, turns, st, line, buffer);
         st = t.st;
         if !t.more {
             return st;
@@ -185,9 +186,9 @@ fn run(line: &mut [u8], buffer: &mut [u8]) -> State
     st
 }
 
-fn main() {
+fn main(rt: HostRuntime) {
     let mut buffer = [0u8; 99328];
     let mut line = [0u8; 256];
-    let st = run(&mut line, &mut buffer);
-    say(st);
+    let st = run(&rt, &mut line, &mut buffer);
+    say(&rt, st);
 }

@@ -1,5 +1,7 @@
 // The face for C and Rust. A float goes over as its bit pattern, so that every NaN pattern may; a slice as a pointer and a length.
 // No function asks anything of its caller: each refuses instead, by document 01's numbers.
+#![tactic(auto)]
+
 ghost use Rattle.std.specs.Prelude.{◌≡◌, true, false, length};
 ghost use Rattle.std.specs.Float.Ieee.{to_bits, of_bits};
 ghost use Rattle.std.specs.Float.{binary64};

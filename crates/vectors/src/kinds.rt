@@ -3,7 +3,7 @@
 // 11 sine, 12 cosine, 13 logarithm, 14 remainder, 15 RF, 16 RC, 17 RD, 18 RJ, 19 rounds. No other is a kind.
 ghost use Rattle.std.specs.Prelude.{◌<◌, ◌≤◌};
 
-use crate::text::{float, shaped, word};
+use crate::spelling::{float, shaped, word};
 use answer::Answer;
 use carlson::Outcome;
 use line::Number;

@@ -1,8 +1,8 @@
 // A list is read in parts of whole lines, and each line is worked out again.
-ghost use Rattle.std.specs.Prelude.{◌<◌};
+ghost use Rattle.std.specs.Prelude.{◌≤◌, length};
 
 use crate::kinds::{Shown, agrees, words};
-use libc::STDOUT_FILENO;
+use files::Source;
 
 // How many lines, how many of them differ, the number of the first that does, and the largest part of its bound
 // that an answer uses.
@@ -60,18 +60,40 @@ fn part_replayed(t: Tally, kind: u8, part: &[u8]) -> Tally {
     out
 }
 
-pub(crate) fn replayed(fd: i32, kind: u8) -> Tally {
-    let mut t = Tally {
+// No line yet.
+pub(crate) fn start() -> Tally {
+    Tally {
         lines: 0,
         differ: 0,
         first: 0,
         part: 0,
-    };
+    }
+}
+
+// Up to the part's end, the file's, or a failure: how many bytes.
+fn fill(rt: &HostRuntime, file: Source<'_>, left: &mut u64, part: &mut [u8]) -> usize
+    ensures { result ≤ length part.new }
+{
+    let mut done: usize = 0;
+    while done < part.len() {
+        let got = files::read_some(rt, file, left, &mut part[done..]);
+        let n = files::count(got, &part[done..]);
+        if n == 0 {
+            return done;
+        }
+        done += n;
+    }
+    done
+}
+
+pub(crate) fn replayed(rt: &HostRuntime, file: Source<'_>, kind: u8) -> Tally {
+    let mut t = start();
+    let mut left = u64::MAX;
     let mut turns = u64::MAX;
     while turns > 0 {
         turns -= 1;
         let mut part = [0u8; 65280];
-        let n = io::read_full(fd, &mut part);
+        let n = fill(rt, file, &mut left, &mut part);
         if n == 0 {
             return t;
         }
@@ -80,20 +102,13 @@ pub(crate) fn replayed(fd: i32, kind: u8) -> Tally {
     t
 }
 
-pub(crate) fn print(t: Tally) {
-    io::write_all(STDOUT_FILENO, b": ");
-    io::print_decimal(STDOUT_FILENO, t.lines);
-    io::write_all(STDOUT_FILENO, b" lines, ");
-    io::print_decimal(STDOUT_FILENO, t.differ);
-    io::write_all(STDOUT_FILENO, b" differ");
+pub(crate) fn print(rt: &HostRuntime, t: Tally) {
+    print!(rt; ": {} lines, {} differ", t.lines, t.differ).is_ok();
     if t.differ > 0 {
-        io::write_all(STDOUT_FILENO, b", the first is line ");
-        io::print_decimal(STDOUT_FILENO, t.first);
+        print!(rt; ", the first is line {}", t.first).is_ok();
     }
     if t.part > 0 {
-        io::write_all(STDOUT_FILENO, b", less than ");
-        io::print_decimal(STDOUT_FILENO, t.part);
-        io::write_all(STDOUT_FILENO, b" millionths of a bound used");
+        print!(rt; ", less than {} millionths of a bound used", t.part).is_ok();
     }
-    io::write_all(STDOUT_FILENO, b"\n");
+    print!(rt; "\n").is_ok();
 }

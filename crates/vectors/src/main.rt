@@ -1,28 +1,48 @@
 // Replays stored lists of outside answers: for each pair of arguments, a kind's number and the name of a list of that kind,
 // it works every line out again and writes how many lines there are and how many differ.
+#![tactic(auto)]
+
 mod kinds;
 mod list;
-mod text;
+mod spelling;
 
-use libc::STDOUT_FILENO;
+use files::{Source, WORD};
+use list::Tally;
+use std::fs::File;
 
-fn replay(i: usize) {
-    let mut kind = io::buffer();
-    let k = os::arg(i, &mut kind);
-    let mut path = io::buffer();
-    let n = os::arg(std::num::wrapping_add_usize(i, 1), &mut path);
-    let fd = os::open_read(&path[..n]);
-    let tally = list::replayed(fd, kinds::kind_of(&kind[..k]));
-    libc::close(fd);
-    io::write_all(STDOUT_FILENO, &path[..n]);
-    list::print(tally);
+// The file of this name, where it can be opened.
+fn open(rt: &HostRuntime, path: &[u8]) -> Option<File> {
+    let Ok(name) = std::str::from_utf8(path) else {
+        return None;
+    };
+    File::open(rt, name).ok()
 }
 
-fn main() {
-    let n = os::arg_count();
+// The list of this name; one that can't be opened has no lines.
+fn tallied(rt: &HostRuntime, path: &[u8], kind: u8) -> Tally {
+    let Some(file) = open(rt, path) else {
+        return list::start();
+    };
+    let tally = list::replayed(rt, Source::Opened(&file), kind);
+    files::close(file);
+    tally
+}
+
+fn replay(rt: &HostRuntime, i: usize) {
+    let mut kind = [0u8; WORD];
+    let k = files::word(rt, i, &mut kind);
+    let mut path = [0u8; WORD];
+    let n = files::word(rt, std::num::wrapping_add_usize(i, 1), &mut path);
+    let tally = tallied(rt, &path[..n], kinds::kind_of(&kind[..k]));
+    rt.stdout().write_all(&path[..n]).is_ok();
+    list::print(rt, tally);
+}
+
+fn main(rt: HostRuntime) {
+    let n = files::word_count(&rt);
     let mut i: usize = 1;
     while i < n {
-        replay(i);
+        replay(&rt, i);
         if n - i < 2 {
             return;
         }

@@ -36,7 +36,7 @@ worked_entered r e F h = by (leb r e.row) (eqb-true _ _ h) where
 last_entered : (r i : ℕ) (w : Row) → Entered w → (es : List Edit) → AllFit es → Entered (last_row r i w es)
 unfolding last_row
 last_entered r i w E [] F = E
-last_entered r i w E (e ∷ es) (F, Fs) = last_entered r i _ (by (accepted r e) (eqb e.row i) refl) es Fs where
+last_entered r i w E (e ∷ es) (F, Fs) = last_entered r i (cond (accepted r e && eqb e.row i) (worked e) w) (by (accepted r e) (eqb e.row i) refl) es Fs where
   by : (p q : Bool) → accepted r e ≡ p → Entered (cond (p && q) (worked e) w)
   by true true h = worked_entered r e F h
   by true false h = E

@@ -1,0 +1,5 @@
+-- The patterns in and the pattern out are those of one float each.
+use Rattle.shuttlemint.proofs.sm_fused.Goals as goal
+
+pub returns : goal.returns
+returns c = rw (c.to_pattern.ensures, c.fused.ensures, c.from_pattern-3.ensures, c.from_pattern-2.ensures, c.from_pattern.ensures)

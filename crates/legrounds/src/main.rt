@@ -1,10 +1,12 @@
 // The rounds that working out each leg makes: standard input to standard output.
-use libc::{STDIN_FILENO, STDOUT_FILENO};
+#![tactic(auto)]
 
-fn main() {
-    if files::word_count() == 1 {
-        rounds::run(b"legrounds", STDIN_FILENO, STDOUT_FILENO);
+use files::{Source, Stream};
+
+fn main(rt: HostRuntime) {
+    if files::word_count(&rt) == 1 {
+        rounds::run(&rt, b"legrounds", Source::Standard, Stream::Stdout);
         return;
     }
-    files::usage(files::begin(STDOUT_FILENO), b"legrounds");
+    files::usage(&rt, files::begin(Stream::Stdout), b"legrounds");
 }

@@ -1,15 +1,18 @@
 // The page of legrounds, for each row its number, its function, and the rounds that working out its answer makes; and its run, which is legsheet's but for the page.
+#![tactic(auto)]
+
 ghost use Rattle.std.specs.Prelude.{◌≡◌, true, false, [], ◌+◌, ◌≤◌, ◌<◌, length};
 ghost use Rattle.ledger.specs.Sheet.{most_rows};
 ghost use Rattle.text.specs.Writing.{Put};
 ghost use Rattle.ending.specs.Outcome.{Start, text_of};
+ghost use Rattle.files.specs.Calls.{number_of};
 ghost use Rattle.files.specs.Output.{output_of, Wrote};
 ghost use Rattle.ending.specs.Ending.{done_text};
 ghost use Rattle.runner.specs.Done.{Done};
 ghost use Rattle.rounds.specs.Rounds.{rounds_in, rounds_line, rounds_page};
 
 use ending::State;
-use files::Output;
+use files::{Output, Source, Stream};
 use ledger::pattern_at;
 use line::LONGEST;
 use page::{LARGEST, ROOM, shown};
@@ -66,21 +69,36 @@ fn put_text(failed: bool, st: State, sheet: &[u8; LARGEST], out: &mut [u8; ROOM]
     put_rounds(out, ending::bytes(st, sheet))
 }
 
-fn write_text(program: &[u8], output: i32, failed: bool, st: State, sheet: &[u8; LARGEST]) -> Output
+fn write_text(
+    rt: &HostRuntime,
+    program: &[u8],
+    output: Stream,
+    failed: bool,
+    st: State,
+    sheet: &[u8; LARGEST],
+) -> Output
     ensures { Wrote (output_of output) (done_text rounds_page [] true failed st sheet.now) result }
 {
     let mut out = [0u8; ROOM];
     let n = put_text(failed, st, sheet, &mut out);
-    ending::write_run(program, output, &program[0..0], true, failed, &out[0..n])
+    ending::write_run(
+        rt,
+        program,
+        output,
+        &program[0..0],
+        true,
+        failed,
+        &out[0..n],
+    )
 }
 
-// One run, from one descriptor to another.
-pub fn run(program: &[u8], input: i32, output: i32)
-    ensures { Done input output rounds_page false [] Start }
+// One run, from an input to an output.
+pub fn run(rt: &HostRuntime, program: &[u8], input: Source<'_>, output: Stream)
+    ensures { Done (number_of input.entry) output rounds_page false [] Start }
 {
     let mut line = [0u8; LONGEST];
     let mut sheet = [0u8; LARGEST];
-    let end = runner::take_all(input, runner::start(), &mut line, &mut sheet);
-    let out = write_text(program, output, end.failed, end.st, &sheet);
-    ending::tell_cut(program, out);
+    let end = runner::take_all(rt, input, runner::start(), &mut line, &mut sheet);
+    let out = write_text(rt, program, output, end.failed, end.st, &sheet);
+    ending::tell_cut(rt, program, out);
 }

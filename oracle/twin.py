@@ -123,7 +123,7 @@ def main():
         line = line.split('#')[0].strip()
         if line:
             name, _, deps = line.partition(':')
-            crates[name.strip()] = deps.split()
+            crates[name.split()[0]] = deps.split()
     order, kit = [], set()
 
     def reach(name):

@@ -333,8 +333,8 @@ def prepared():
     for library in given.before:
         if not os.path.exists(library): stop(f'{library} is not there')
     stale = subprocess.run(f'find crates.txt crates/*/src -newer {ARCHIVE} -print -quit', shell=True, cwd=measured.ROOT, capture_output=True)
-    if stale.stdout or stale.returncode: run('rt', 'staticlib', 'shuttlemint')
-    run('rt', 'check', *PROGRAMS)
+    if stale.stdout or stale.returncode: run('examples/prove', 'shuttlemint')
+    run('examples/prove', *PROGRAMS)
     run('faces/python/build')
     run('cargo', 'build', '--offline', '--release', at='faces/rust')
 

@@ -2,7 +2,7 @@
 """twin.py CRATES.TXT OUT.rs NAME..: the named crates and what they use, with the contracts left out, as one file of Rust.
 
 Rattle's code is Rust but for its contracts, so this is the same method in Rust, step by step: what the benchmarks compare with.
-Structs and enums become Copy; std::num's functions become Rust's own operations, and what is used of the kit's io, libc and os becomes Rust's std."""
+std::num's functions become Rust's own operations, and what is used of the kit's io, libc and os becomes Rust's std."""
 import os
 import re
 import sys
@@ -86,8 +86,9 @@ pub mod os {
 
 def without_contracts(text):
     text = re.sub(r'^\s*ghost use [^;]*;\n', '', text, flags=re.M)
+    text = re.sub(r'^#!\[[^\]]*\]\n', '', text, flags=re.M)
     out, i = [], 0
-    clause = re.compile(r'\n\s*(requires|ensures)\b[^{]*\{')
+    clause = re.compile(r'\n\s*(requires|ensures)\b[^{\n]*\{')
     while True:
         m = clause.search(text, i)
         if not m:
@@ -103,7 +104,6 @@ def without_contracts(text):
 def module(crates, name, path, deps):
     text = without_contracts(open(path, encoding='utf-8').read())
     text = text.replace('crate::', f'crate::{name}::').replace('std::num::', 'crate::num::')
-    text = re.sub(r'^((?:pub(?:\(crate\))? )?(?:struct|enum) )', r'#[derive(Clone, Copy)]\n\1', text, flags=re.M)
     text = re.sub(r'^use (%s)::' % '|'.join(deps + ['-']), r'use crate::\1::', text, flags=re.M)
     uses = ''.join(f'#[allow(unused_imports)]\nuse crate::{d};\n' for d in deps if not re.search(r'^use crate::%s;' % d, text, flags=re.M))
     folder = os.path.dirname(path)
@@ -123,7 +123,7 @@ def main():
         line = line.split('#')[0].strip()
         if line:
             name, _, deps = line.partition(':')
-            crates[name.strip()] = deps.split()
+            crates[name.split()[0]] = deps.split()
     order, kit = [], set()
 
     def reach(name):

@@ -22,6 +22,7 @@ def read():
             words.append(LEAVES if line == "# leaves first" else line[1:].strip())
         elif line:
             name, _, rest = line.partition(":")
+            name = name.split()[0]
             uses[name], kit[name], group[name] = rest.split(), [], max(0, len(words) - 1)
     for name in uses:
         kit[name] = [x for x in uses[name] if x not in uses]

@@ -160,7 +160,7 @@ def answers(told, folder):
 def listed():
     """The crates of crates.txt."""
     with open(os.path.join(model.ROOT, 'crates.txt')) as file:
-        return {line.split(':')[0] for line in file if ':' in line}
+        return {line.split(':')[0].split()[0] for line in file if ':' in line}
 
 
 def takes_files(folder):

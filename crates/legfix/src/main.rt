@@ -1,17 +1,18 @@
 // Edits on the sheet in a file: standard input to the file, and to standard output.
-use files::WORD;
-use libc::{STDIN_FILENO, STDOUT_FILENO};
+#![tactic(auto)]
 
-fn on_file() {
+use files::{Source, Stream, WORD};
+
+fn on_file(rt: &HostRuntime) {
     let mut name = [0u8; WORD];
-    let n = files::word(1, &mut name);
-    fixing::fix(b"legfix", STDIN_FILENO, STDOUT_FILENO, &name[0..n]);
+    let n = files::word(rt, 1, &mut name);
+    fixing::fix(rt, b"legfix", Source::Standard, Stream::Stdout, &name[0..n]);
 }
 
-fn main() {
-    if files::word_count() == 2 {
-        on_file();
+fn main(rt: HostRuntime) {
+    if files::word_count(&rt) == 2 {
+        on_file(&rt);
         return;
     }
-    files::usage(files::begin(STDOUT_FILENO), b"legfix FILE");
+    files::usage(&rt, files::begin(Stream::Stdout), b"legfix FILE");
 }

@@ -1,9 +1,14 @@
 // Hex text read into a sheet file (02, [10]).
-fn main() {
+#![tactic(auto)]
+
+use files::{Source, Stream};
+
+fn main(rt: HostRuntime) {
     reading::run(
+        &rt,
         b"legread",
         b"legread FILE",
-        libc::STDIN_FILENO,
-        libc::STDOUT_FILENO,
+        Source::Standard,
+        Stream::Stdout,
     );
 }

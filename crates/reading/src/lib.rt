@@ -1,16 +1,19 @@
 // Hex text read into a sheet file: all that legread does (02, [10]). The file is written by one call, and only with a sheet that every line of the text was taken into.
+#![tactic(auto)]
+
 mod ends;
 mod saying;
 
 ghost use Rattle.std.specs.Prelude.{◌≡◌, replicate, ◌≤◌};
 ghost use Rattle.page.specs.Page.{largest};
+ghost use Rattle.files.specs.Calls.{number_of};
 ghost use Rattle.files.specs.Save.{Save};
 ghost use Rattle.hexline.specs.Parts.{part_at};
 ghost use Rattle.hextext.specs.HexText.{count_of};
 ghost use Rattle.reading.specs.Taken.{lent_for, taken_of, end_of, Readable, Answered, Done, Ran};
 
 use ends::line_ends;
-use files::{Output, WORD};
+use files::{Output, Source, Stream, WORD};
 use hextext::Halt;
 use line::Number;
 use loading::put_number;
@@ -50,73 +53,89 @@ fn take(sheet: &mut [u8], text: &[u8]) -> Halt
 }
 
 // The one call that writes a file: with a sheet that a whole text was taken into. So where a text is refused no file is written.
-fn save_sheet(name: &[u8], sheet: &[u8]) -> bool
+fn save_sheet(rt: &HostRuntime, name: &[u8], sheet: &[u8]) -> bool
     requires { Readable sheet.now }
     ensures { Save name.now sheet.now result }
 {
-    files::save(name, sheet)
+    files::save(rt, name, sheet)
 }
 
 // The text taken and put into the file of this name; or why not.
-fn settle(program: &[u8], out: Output, sheet: &mut [u8], text: &[u8], name: &[u8]) -> Output
+fn settle(
+    rt: &HostRuntime,
+    program: &[u8],
+    out: Output,
+    sheet: &mut [u8],
+    text: &[u8],
+    name: &[u8],
+) -> Output
     requires { sheet.old ≡ replicate (lent_for (count_of (part_at 10 text.now 0))) 0 }
     ensures { Answered text.now name.now out result }
 {
     let h = take(sheet, text);
     if h.refusal != 0 {
         files::tell(
+            rt,
             program,
             b": the file is as it was; mend the line that is named, and read the whole text again\n",
         );
-        return put_halt(out, h);
+        return put_halt(rt, out, h);
     }
-    if !save_sheet(name, sheet) {
+    if !save_sheet(rt, name, sheet) {
         files::tell(
+            rt,
             program,
             b": the file is as it was; make room on its disk, or name a file in a folder that may be written\n",
         );
-        return files::cannot_write(out, name);
+        return files::cannot_write(rt, out, name);
     }
-    put_number(out, b"rows ", ledger::rows_in(sheet) as u64)
+    put_number(rt, out, b"rows ", ledger::rows_in(sheet) as u64)
 }
 
 // The text, with a sheet's memory.
-fn take_text(program: &[u8], out: Output, text: &[u8], name: &[u8]) -> Output
+fn take_text(rt: &HostRuntime, program: &[u8], out: Output, text: &[u8], name: &[u8]) -> Output
     ensures { Answered text.now name.now out result }
 {
     let mut sheet = [0u8; LARGEST];
     let n = lent(text);
-    settle(program, out, &mut sheet[0..n], text, name)
+    settle(rt, program, out, &mut sheet[0..n], text, name)
 }
 
 // The whole input is read before anything is tested.
-fn read_input(program: &[u8], input: i32, output: i32, name: &[u8]) -> Output
-    ensures { Done input output name.now result }
+fn read_input(
+    rt: &HostRuntime,
+    program: &[u8],
+    input: Source<'_>,
+    output: Stream,
+    name: &[u8],
+) -> Output
+    ensures { Done (number_of input.entry) output name.now result }
 {
     let mut text = [0u8; MOST_TEXT];
     let out = files::begin(output);
-    let got = loading::read_whole(input, &mut text);
+    let got = loading::read_whole(rt, input, &mut text);
     let n = got.length;
     if !got.ok {
         files::tell(
+            rt,
             program,
             b": the input could not be read to its end, and the file is as it was; run it again\n",
         );
-        return put_number(out, b"input failed after line ", line_ends(&text[0..n]));
+        return put_number(rt, out, b"input failed after line ", line_ends(&text[0..n]));
     }
-    take_text(program, out, &text[0..n], name)
+    take_text(rt, program, out, &text[0..n], name)
 }
 
 // One run of the program of this name, which is called so.
-pub fn run(program: &[u8], call: &[u8], input: i32, output: i32)
-    ensures { Ran input output call.now }
+pub fn run(rt: &HostRuntime, program: &[u8], call: &[u8], input: Source<'_>, output: Stream)
+    ensures { Ran (number_of input.entry) output call.now }
 {
-    if files::word_count() != 2 {
-        files::usage(files::begin(output), call);
+    if files::word_count(rt) != 2 {
+        files::usage(rt, files::begin(output), call);
         return;
     }
     let mut name = [0u8; WORD];
-    let n = files::word(1, &mut name);
-    let end = read_input(program, input, output, &name[0..n]);
-    ending::tell_cut(program, end);
+    let n = files::word(rt, 1, &mut name);
+    let end = read_input(rt, program, input, output, &name[0..n]);
+    ending::tell_cut(rt, program, end);
 }

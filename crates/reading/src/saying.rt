@@ -21,22 +21,22 @@ fn put_place(out: &mut [u8; 65], line: u64, column: u64) -> usize
     put_decimal(out, at, column, 10)
 }
 
-fn put_18(out: Output, line: u64, column: u64) -> Output
+fn put_18(rt: &HostRuntime, out: Output, line: u64, column: u64) -> Output
     ensures { Wrote out (ascii "refused 18 line " ++ decimal line ++ ascii " column " ++ decimal column ++ end) result }
 {
     let mut text = [0u8; 65];
     let n = put_place(&mut text, line, column);
-    files::put(out, &text[0..n])
+    files::put(rt, out, &text[0..n])
 }
 
-pub(crate) fn put_halt(out: Output, h: Halt) -> Output
+pub(crate) fn put_halt(rt: &HostRuntime, out: Output, h: Halt) -> Output
     ensures { Wrote out (halt_line h) result }
 {
     if h.refusal == 18 {
-        return put_18(out, h.line as u64, h.column as u64);
+        return put_18(rt, out, h.line as u64, h.column as u64);
     }
     if h.refusal == 22 {
-        return put_number(out, b"refused 22 line ", h.line as u64);
+        return put_number(rt, out, b"refused 22 line ", h.line as u64);
     }
-    put_number(out, b"refused ", h.refusal as u64)
+    put_number(rt, out, b"refused ", h.refusal as u64)
 }

@@ -1,0 +1,22 @@
+-- Another number of words, or the file.
+use mathlib.Core.Path.{subst}
+use Rattle.files.specs.Calls.{Counts}
+use Rattle.files.specs.Notes.{usage_line}
+use Rattle.files.specs.declared.sending.Output.{Output}
+use Rattle.files.specs.Output.{Wrote}
+use native.Mathlib.Nat.{sub-zero}
+use Rattle.reading.specs.Taken.{called_wrong, called}
+use Rattle.reading.proofs.run.Goals as goal
+
+pub returns-then-word_count-ne2 : goal.returns-then-word_count-ne2
+returns-then-word_count-ne2 c =
+    let n = c.word_count in
+    called_wrong n.result c.usage.result n.ensures c.if-word_count-ne2.true
+    (subst (λ (o : Output). Wrote o (usage_line c.args.call.now) c.usage.result) (c.begin.ensures) c.usage.ensures)
+
+pub returns : goal.returns
+returns c =
+    let n = c.word_count in
+    let w = c.word-n in
+    let r = c.read_input-end in
+    called _ (subst (Counts) c.if-word_count-ne2.false n.ensures) w.ensures.called r.result (rw (sub-zero w.result) at r.ensures)

@@ -1,7 +1,7 @@
 #!/usr/bin/env python3
-"""tools/convert_proofs.py CRATE [NAMES]: turns each crates/CRATE/proofs/../Proof.antt, a walk of the older kit, into Invariants.antt and Answers.antt.
+"""tools/convert_proofs.py CRATE NAMES WALKS: turns each walk of the older kit, WALKS/../Proof.antt, into Invariants.antt and Answers.antt in crates/CRATE/proofs.
 
-NAMES is the file that `rt check --allow-holes --generated DIR --old-names` wrote (DIR/names.json), with the old and the new name of each goal and step. An answer that only searched goes: the check
+WALKS is where the crate's proofs/ were put aside. NAMES is the file that `rt check --allow-holes --generated DIR --old-names` wrote (DIR/names.json), with the old and the new name of each goal and step. An answer that only searched goes: the check
 tries that by itself. What a path could not be read as is kept as it was, and said. Proof.antt goes where everything was read; the check decides."""
 import json
 import os
@@ -263,7 +263,7 @@ def main():
     folder = os.path.join(ROOT, 'crates', crate)
     with open(sys.argv[2], encoding='utf-8') as f: names = json.load(f)
     said, done = [], 0
-    old = f'/work/old/{crate}/proofs'
+    old = sys.argv[3]
     for at, _, files in os.walk(old):
         if 'Proof.antt' not in files: continue
         inner = os.path.relpath(at, old)

@@ -1,5 +1,5 @@
 -- Two sheet files compared (02, [5]): what is said of them. s is the old sheet, t the new one. Definitions only.
-use Rattle.std.specs.Prelude.{◌≡◌, ℕ, true, false, List, eqb}
+use Rattle.std.specs.Prelude.{◌≡◌, ℕ, true, false, List, eqb, ℤ}
 use Rattle.laws.specs.Ladder.{when◌gives◌else◌}
 use Rattle.difference.specs.Difference.{stop_of}
 use Rattle.differing.specs.Differing.{text_of, refused_text}
@@ -8,7 +8,6 @@ use Rattle.loading.specs.Load.{Load}
 use Rattle.files.specs.Notes.{usage_line}
 use Rattle.loading.specs.Notes.{cannot_read}
 use Rattle.files.specs.declared.sending.Output.{Output}
-use Rattle.files.specs.declared.sending.Stream.{Stream}
 use Rattle.files.specs.Output.{output_of, Wrote}
 
 -- of two sheets: a line for each row that differs, and the end; nothing is printed before every test has passed. Of what is refused, that line alone, with the file's name
@@ -24,12 +23,12 @@ pub data Compared (old new text : List ℕ) : Type 0 where
   both_read : {s t : List ℕ} → Load old s true → Load new t true → text ≡ compared_text old new s t → Compared old new text
 
 -- the two files were named, and what is said of them was sent, a line at a time
-pub record Done (output : Stream) (old new : List ℕ) (last : Output) : Type 0 where
+pub record Done (output : ℤ) (old new : List ℕ) (last : Output) : Type 0 where
   pub text : List ℕ
   pub compared : Compared old new text
   pub wrote : Wrote (output_of output) text last
 
 -- a whole run: with two words after the program's name they are the files'; with another number of them it says how it is called, and does nothing else
-pub data Ran (output : Stream) (call : List ℕ) : Type 0 where
+pub data Ran (output : ℤ) (call : List ℕ) : Type 0 where
   called_wrong : (n : ℕ) (last : Output) → Counts n → (n ≡ 3 → ⊥) → Wrote (output_of output) (usage_line call) last → Ran output call
   called : (old new : List ℕ) → Counts 3 → Called (words 1 old) → Called (words 2 new) → (last : Output) → Done output old new last → Ran output call

@@ -8,7 +8,7 @@ ghost use Rattle.comparing.specs.Comparing.{compared_text, Done, Ran};
 
 use difference::Stop;
 use differing::LINE;
-use files::{Output, Stream, WORD};
+use files::{Output, WORD};
 use loading::MOST;
 
 // The line of a row that differs; nothing where it does not.
@@ -91,7 +91,7 @@ fn unread(rt: &HostRuntime, program: &[u8], out: Output, name: &[u8]) -> Output
 }
 
 // Both files are read before either is tested.
-fn compare_files(rt: &HostRuntime, program: &[u8], output: Stream, old: &[u8], new: &[u8]) -> Output
+fn compare_files(rt: &HostRuntime, program: &[u8], output: i32, old: &[u8], new: &[u8]) -> Output
     ensures { Done output old.now new.now result }
 {
     let mut first = [0u8; MOST];
@@ -122,7 +122,7 @@ fn complain(rt: &HostRuntime, program: &[u8], ok: bool) {
 }
 
 // One run of the program of this name, which is called so.
-pub fn run(rt: &HostRuntime, program: &[u8], call: &[u8], output: Stream)
+pub fn run(rt: &HostRuntime, program: &[u8], call: &[u8], output: i32)
     ensures { Ran output call.now }
 {
     if files::word_count(rt) != 3 {

@@ -10,7 +10,7 @@ ghost use Rattle.files.specs.Output.{output_of, Wrote};
 ghost use Rattle.files.specs.Notes.{cannot_write};
 ghost use Rattle.ending.specs.Ending.{done_text, Told};
 
-use files::{Output, Stream};
+use files::Output;
 use outcome::put_text;
 pub use outcome::{State, bytes, least, put_instead};
 use page::{LARGEST, ROOM};
@@ -19,7 +19,7 @@ use page::{LARGEST, ROOM};
 pub fn write_run(
     rt: &HostRuntime,
     program: &[u8],
-    output: Stream,
+    output: i32,
     name: &[u8],
     ok: bool,
     failed: bool,
@@ -49,7 +49,7 @@ pub fn write_run(
 pub fn write_page(
     rt: &HostRuntime,
     program: &[u8],
-    output: Stream,
+    output: i32,
     name: &[u8],
     ok: bool,
     failed: bool,

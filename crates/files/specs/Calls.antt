@@ -4,7 +4,6 @@ use Rattle.std.specs.Fd.{file_raw_fd}
 use Rattle.std.specs.declared.fs.File.{File}
 use Rattle.files.specs.declared.reading.Source.{Source}
 use Rattle.files.specs.declared.reading.Source.TheVariants.{Standard, Opened}
-use Rattle.files.specs.declared.sending.Stream.{Stream}
 
 -- the descriptor of standard input, or of a file that was opened
 abbrev pub number_of : Source → ℤ
@@ -42,8 +41,8 @@ pub data Call : Type 0 where
   renames : List ℕ → List ℕ → Bool → Call
   -- std::fs::remove_file
   removes : List ℕ → Bool → Call
-  -- Print::write_all sent this text to an output; a program numbers what it sends to each
-  sends : Stream → ℕ → List ℕ → Bool → Call
+  -- Print::write_all sent this text to an output, 1 or 2; a program numbers what it sends to each. Another output takes nothing
+  sends : ℤ → ℕ → List ℕ → Bool → Call
   -- std::rt::Env::arg, asked whether there is a word of this number in the program's call
   has : ℕ → Bool → Call
   -- std::rt::Env::arg: one of them, by its number

@@ -15,4 +15,4 @@ pub use closing::close;
 pub use reading::{Source, call_read, count, read_some};
 pub use saving::save;
 pub use saying::{cannot_write, put_note, tell, usage};
-pub use sending::{Output, Stream, begin, put};
+pub use sending::{Output, STDERR, STDOUT, begin, put};

@@ -1,11 +1,10 @@
 // What is said instead of an answer.
-ghost use Rattle.std.specs.Prelude.{◌++◌};
+ghost use Rattle.std.specs.Prelude.{◌++◌, pos};
 ghost use Rattle.laws.specs.Ascii.{ascii};
 ghost use Rattle.files.specs.Notes.{cannot_write, usage_line};
 ghost use Rattle.files.specs.Output.{output_of, Wrote};
-ghost use Rattle.files.specs.declared.sending.Stream.TheVariants.{Stderr};
 
-use crate::{Output, Stream, begin, put};
+use crate::{Output, STDERR, begin, put};
 
 // Words, a name and the line's end. The name may be longer than any buffer, so it is sent as it is.
 pub fn put_note(rt: &HostRuntime, out: Output, words: &[u8], name: &[u8]) -> Output
@@ -32,7 +31,7 @@ pub fn usage(rt: &HostRuntime, out: Output, call: &[u8]) -> Output
 
 // To standard error: the program's name, and what to do next.
 pub fn tell(rt: &HostRuntime, program: &[u8], what: &[u8]) -> Output
-    ensures { Wrote (output_of Stderr) (program.now ++ what.now) result }
+    ensures { Wrote (output_of (pos 2)) (program.now ++ what.now) result }
 {
-    put(rt, put(rt, begin(Stream::Stderr), program), what)
+    put(rt, put(rt, begin(STDERR), program), what)
 }

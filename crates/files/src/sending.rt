@@ -1,48 +1,53 @@
 // Text to an output, piece by piece.
 ghost use Rattle.std.specs.Prelude.{◌≡◌};
+ghost use Rattle.files.specs.Calls.{Called, sends};
 ghost use Rattle.files.specs.Output.{output_of, Wrote};
 
-// Standard output, or standard error.
-#[derive(Clone, Copy)]
-pub enum Stream {
-    Stdout,
-    Stderr,
-}
+// Standard output and standard error. std knows no other output: any other takes nothing.
+pub const STDOUT: i32 = 1;
+
+pub const STDERR: i32 = 2;
 
 // Where the text goes, how many pieces were sent there, and whether all of them were taken.
 #[derive(Clone, Copy)]
 pub struct Output {
-    pub to: Stream,
+    pub file: i32,
     pub sends: u64,
     pub ok: bool,
 }
 
-pub fn begin(to: Stream) -> Output
-    ensures { result ≡ output_of to }
+pub fn begin(file: i32) -> Output
+    ensures { result ≡ output_of file }
 {
     Output {
-        to,
+        file,
         sends: 0,
         ok: true,
     }
 }
 
-// All of the bytes: whether they were taken.
-fn write(rt: &HostRuntime, to: Stream, text: &[u8]) -> bool {
-    match to {
-        Stream::Stdout => rt.stdout().write_all(text).is_ok(),
-        Stream::Stderr => rt.stderr().write_all(text).is_ok(),
+// The one call that writes to an output.
+fn send(rt: &HostRuntime, out: Output, text: &[u8]) -> bool
+    ensures { Called (sends out.file out.sends text.now result) }
+{
+    if out.file == STDOUT {
+        return rt.stdout().write_all(text).is_ok();
     }
+    if out.file == STDERR {
+        return rt.stderr().write_all(text).is_ok();
+    }
+    false
 }
 
-// The one call that writes to an output. After one that failed no other is made.
+// After a piece that was not taken whole no other is sent.
 pub fn put(rt: &HostRuntime, mut out: Output, text: &[u8]) -> Output
     ensures { Wrote out text.now result }
 {
     if !out.ok {
         return out;
     }
-    out.ok = write(rt, out.to, text);
+    let ok = send(rt, out, text);
+    out.ok = ok;
     out.sends = std::num::wrapping_add_u64(out.sends, 1);
     out
 }

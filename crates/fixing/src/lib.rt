@@ -6,7 +6,7 @@ ghost use Rattle.files.specs.Calls.{number_of};
 ghost use Rattle.loading.specs.Load.{Load};
 ghost use Rattle.fixing.specs.Fixed.{Fixed};
 
-use files::{Source, Stream};
+use files::Source;
 use loading::MOST;
 
 // Lines on the sheet in these bytes, which the file of this name holds.
@@ -14,7 +14,7 @@ fn fix_sheet(
     rt: &HostRuntime,
     program: &[u8],
     input: Source<'_>,
-    output: Stream,
+    output: i32,
     name: &[u8],
     bytes: &[u8],
 )
@@ -35,7 +35,7 @@ fn fix_sheet(
 }
 
 // Lines on the sheet in the file of this name: all of them, or the file is as it was.
-pub fn fix(rt: &HostRuntime, program: &[u8], input: Source<'_>, output: Stream, name: &[u8])
+pub fn fix(rt: &HostRuntime, program: &[u8], input: Source<'_>, output: i32, name: &[u8])
     ensures { Fixed (number_of input.entry) output name.now }
 {
     let mut file = [0u8; MOST];

@@ -1,8 +1,6 @@
 // Two sheet files compared, row by row (02, [5]).
 #![tactic(auto)]
 
-use files::Stream;
-
 fn main(rt: HostRuntime) {
-    comparing::run(&rt, b"legdiff", b"legdiff OLD NEW", Stream::Stdout);
+    comparing::run(&rt, b"legdiff", b"legdiff OLD NEW", files::STDOUT);
 }

@@ -1,12 +1,12 @@
 // Edits on the sheet in a file: standard input to the file, and to standard output.
 #![tactic(auto)]
 
-use files::{Source, Stream, WORD};
+use files::{Source, WORD};
 
 fn on_file(rt: &HostRuntime) {
     let mut name = [0u8; WORD];
     let n = files::word(rt, 1, &mut name);
-    fixing::fix(rt, b"legfix", Source::Standard, Stream::Stdout, &name[0..n]);
+    fixing::fix(rt, b"legfix", Source::Standard, files::STDOUT, &name[0..n]);
 }
 
 fn main(rt: HostRuntime) {
@@ -14,5 +14,5 @@ fn main(rt: HostRuntime) {
         on_file(&rt);
         return;
     }
-    files::usage(&rt, files::begin(Stream::Stdout), b"legfix FILE");
+    files::usage(&rt, files::begin(files::STDOUT), b"legfix FILE");
 }

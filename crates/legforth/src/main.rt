@@ -1,8 +1,6 @@
 // From a sheet file that says 1 to one that says 3 (02, [9]).
 #![tactic(auto)]
 
-use files::Stream;
-
 fn main(rt: HostRuntime) {
-    turning::run(&rt, b"legforth", b"legforth OLD NEW", Stream::Stdout, true);
+    turning::run(&rt, b"legforth", b"legforth OLD NEW", files::STDOUT, true);
 }

@@ -1,7 +1,7 @@
 // Hex text read into a sheet file (02, [10]).
 #![tactic(auto)]
 
-use files::{Source, Stream};
+use files::Source;
 
 fn main(rt: HostRuntime) {
     reading::run(
@@ -9,6 +9,6 @@ fn main(rt: HostRuntime) {
         b"legread",
         b"legread FILE",
         Source::Standard,
-        Stream::Stdout,
+        files::STDOUT,
     );
 }

@@ -1,7 +1,7 @@
 // The leg sheet's program: standard input to standard output, and to the file that its call names.
 #![tactic(auto)]
 
-use files::{Source, Stream, WORD};
+use files::{Source, WORD};
 
 fn to_file(rt: &HostRuntime) {
     let mut name = [0u8; WORD];
@@ -10,7 +10,7 @@ fn to_file(rt: &HostRuntime) {
         rt,
         b"legsheet",
         Source::Standard,
-        Stream::Stdout,
+        files::STDOUT,
         true,
         &name[0..n],
         b"",
@@ -24,7 +24,7 @@ fn main(rt: HostRuntime) {
             &rt,
             b"legsheet",
             Source::Standard,
-            Stream::Stdout,
+            files::STDOUT,
             false,
             b"",
             b"",
@@ -35,5 +35,5 @@ fn main(rt: HostRuntime) {
         to_file(&rt);
         return;
     }
-    files::usage(&rt, files::begin(Stream::Stdout), b"legsheet [FILE]");
+    files::usage(&rt, files::begin(files::STDOUT), b"legsheet [FILE]");
 }

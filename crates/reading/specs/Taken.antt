@@ -15,7 +15,6 @@ use Rattle.files.specs.Calls.{Called, words, Counts}
 use Rattle.files.specs.Save.{Save}
 use Rattle.files.specs.Notes.{cannot_write, usage_line}
 use Rattle.files.specs.declared.sending.Output.{Output}
-use Rattle.files.specs.declared.sending.Stream.{Stream}
 use Rattle.files.specs.Output.{output_of, Wrote}
 use Rattle.loading.specs.Load.{Brought}
 use Rattle.loading.specs.Notes.{number_line}
@@ -72,11 +71,11 @@ pub record Answered (t name : List ℕ) (out last : Output) : Type 0 where
   pub wrote : Wrote out text last
 
 -- of the input: it is read whole, as far as the buffer goes, before anything is tested
-pub data Done (input : ℤ) (output : Stream) (name : List ℕ) (last : Output) : Type 0 where
+pub data Done (input : ℤ) (output : ℤ) (name : List ℕ) (last : Output) : Type 0 where
   failed : {t : List ℕ} → Brought most_text input t false → Wrote (output_of output) (number_line (ascii "input failed after line ") (line_ends t)) last → Done input output name last
   read : {t : List ℕ} → Brought most_text input t true → Answered t name (output_of output) last → Done input output name last
 
 -- a whole run: with one word after the program's name it is the file's; with another number of them it says how it is called, and does nothing else
-pub data Ran (input : ℤ) (output : Stream) (call : List ℕ) : Type 0 where
+pub data Ran (input : ℤ) (output : ℤ) (call : List ℕ) : Type 0 where
   called_wrong : (n : ℕ) (last : Output) → Counts n → (n ≡ 2 → ⊥) → Wrote (output_of output) (usage_line call) last → Ran input output call
   called : (name : List ℕ) → Counts 2 → Called (words 1 name) → (last : Output) → Done input output name last → Ran input output call

@@ -13,7 +13,7 @@ ghost use Rattle.hextext.specs.HexText.{count_of};
 ghost use Rattle.reading.specs.Taken.{lent_for, taken_of, end_of, Readable, Answered, Done, Ran};
 
 use ends::line_ends;
-use files::{Output, Source, Stream, WORD};
+use files::{Output, Source, WORD};
 use hextext::Halt;
 use line::Number;
 use loading::put_number;
@@ -106,7 +106,7 @@ fn read_input(
     rt: &HostRuntime,
     program: &[u8],
     input: Source<'_>,
-    output: Stream,
+    output: i32,
     name: &[u8],
 ) -> Output
     ensures { Done (number_of input.entry) output name.now result }
@@ -127,7 +127,7 @@ fn read_input(
 }
 
 // One run of the program of this name, which is called so.
-pub fn run(rt: &HostRuntime, program: &[u8], call: &[u8], input: Source<'_>, output: Stream)
+pub fn run(rt: &HostRuntime, program: &[u8], call: &[u8], input: Source<'_>, output: i32)
     ensures { Ran (number_of input.entry) output call.now }
 {
     if files::word_count(rt) != 2 {

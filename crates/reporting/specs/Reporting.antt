@@ -1,5 +1,5 @@
 -- The month's report of the files that are named (02, [2]): what comes of each, the report, and what is said. Definitions only.
-use Rattle.std.specs.Prelude.{◌≡◌, ℕ, ◌+◌, ◌≤◌, ◌<◌, Bool, true, false, cond, ◌&&◌, List, [], ◌∷◌, ◌++◌, eqb}
+use Rattle.std.specs.Prelude.{◌≡◌, ℕ, ◌+◌, ◌≤◌, ◌<◌, Bool, true, false, cond, ◌&&◌, List, [], ◌∷◌, ◌++◌, eqb, ℤ}
 use Rattle.laws.specs.Ascii.{ascii}
 use Rattle.laws.specs.Ladder.{when◌gives◌else◌}
 use Rattle.text.specs.Text.{end}
@@ -11,7 +11,6 @@ use Rattle.files.specs.Calls.{Called, words, Counts}
 use Rattle.loading.specs.Load.{Load}
 use Rattle.files.specs.Notes.{usage_line}
 use Rattle.files.specs.declared.sending.Output.{Output}
-use Rattle.files.specs.declared.sending.Stream.{Stream}
 use Rattle.files.specs.Output.{output_of, Wrote}
 use Rattle.reporting.specs.declared.parts.Fate.{Fate}
 
@@ -98,7 +97,7 @@ abbrev pub too_many_line : List ℕ
 too_many_line = ascii "too many files\n"
 
 -- a whole run: each word after the program's name is a file's; without one it says how it is called, with more than a month's it says so, and does nothing else
-pub data Ran (output : Stream) (call : List ℕ) : Type 0 where
+pub data Ran (output : ℤ) (call : List ℕ) : Type 0 where
   called_wrong : (n : ℕ) (last : Output) → Counts n → n < 2 → Wrote (output_of output) (usage_line call) last → Ran output call
   too_many : (n : ℕ) (last : Output) → Counts (n + 1) → most_files < n → Wrote (output_of output) too_many_line last → Ran output call
   called : (n : ℕ) (last : Output) → Counts (n + 1) → 0 < n → n ≤ most_files → Reported (output_of output) n last → Ran output call

@@ -10,7 +10,7 @@ ghost use Rattle.std.specs.Prelude.{◌≤◌};
 ghost use Rattle.month.specs.Files.{most_files};
 ghost use Rattle.reporting.specs.Reporting.{Reported, Ran};
 
-use files::{Output, Stream};
+use files::Output;
 pub use parts::Fate;
 use parts::MOST_FILES;
 use saying::{put_files, put_page};
@@ -53,7 +53,7 @@ fn complain(rt: &HostRuntime, program: &[u8], ok: bool) {
 }
 
 // One run of the program of this name, which is called so.
-pub fn run(rt: &HostRuntime, program: &[u8], call: &[u8], output: Stream)
+pub fn run(rt: &HostRuntime, program: &[u8], call: &[u8], output: i32)
     ensures { Ran output call.now }
 {
     let out = files::begin(output);

@@ -12,7 +12,7 @@ ghost use Rattle.runner.specs.Done.{Done};
 ghost use Rattle.rounds.specs.Rounds.{rounds_in, rounds_line, rounds_page};
 
 use ending::State;
-use files::{Output, Source, Stream};
+use files::{Output, Source};
 use ledger::pattern_at;
 use line::LONGEST;
 use page::{LARGEST, ROOM, shown};
@@ -72,7 +72,7 @@ fn put_text(failed: bool, st: State, sheet: &[u8; LARGEST], out: &mut [u8; ROOM]
 fn write_text(
     rt: &HostRuntime,
     program: &[u8],
-    output: Stream,
+    output: i32,
     failed: bool,
     st: State,
     sheet: &[u8; LARGEST],
@@ -93,7 +93,7 @@ fn write_text(
 }
 
 // One run, from an input to an output.
-pub fn run(rt: &HostRuntime, program: &[u8], input: Source<'_>, output: Stream)
+pub fn run(rt: &HostRuntime, program: &[u8], input: Source<'_>, output: i32)
     ensures { Done (number_of input.entry) output rounds_page false [] Start }
 {
     let mut line = [0u8; LONGEST];

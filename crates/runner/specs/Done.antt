@@ -6,7 +6,6 @@ use Rattle.ending.specs.declared.outcome.State.{State}
 use Rattle.ending.specs.Outcome.{Outcome, Start, Sheet, ended_of}
 use Rattle.runner.specs.Machine.{Room, room, finish_of, Begins}
 use Rattle.files.specs.declared.sending.Output.{Output}
-use Rattle.files.specs.declared.sending.Stream.{Stream}
 use Rattle.files.specs.Calls.{Read}
 use Rattle.files.specs.Save.{Save}
 use Rattle.files.specs.Output.{output_of, Wrote}
@@ -69,7 +68,7 @@ pub data Keep (filed : Bool) (name : List ℕ) (failed : Bool) (st : State) (m :
 -- ---- the whole
 
 -- a whole run from o, by one page or the other, with a file of this name or without: what it read, what it kept, and the text that it wrote
-pub record Done (input : ℤ) (output : Stream) (page : List ℕ → List ℕ) (filed : Bool) (name : List ℕ) (o : Outcome) : Type 0 where
+pub record Done (input : ℤ) (output : ℤ) (page : List ℕ → List ℕ) (filed : Bool) (name : List ℕ) (o : Outcome) : Type 0 where
   pub st : State
   pub m : List ℕ
   pub failed : Bool

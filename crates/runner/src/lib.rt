@@ -16,7 +16,7 @@ ghost use Rattle.runner.specs.Done.{begun_of, Done};
 
 use ending::State;
 pub use engine::start;
-use files::{Source, Stream};
+use files::Source;
 use keeping::keep;
 use line::LONGEST;
 use lines::between;
@@ -41,7 +41,7 @@ pub fn run(
     rt: &HostRuntime,
     program: &[u8],
     input: Source<'_>,
-    output: Stream,
+    output: i32,
     filed: bool,
     name: &[u8],
     from: &[u8],

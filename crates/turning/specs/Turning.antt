@@ -1,5 +1,5 @@
 -- A sheet file turned into one of the other kind (02, [9]): what is said, and what is then in the second file. `forth` says which way: true from 1 to 3. Definitions only.
-use Rattle.std.specs.Prelude.{◌≡◌, ℕ, Bool, true, false, List, eqb}
+use Rattle.std.specs.Prelude.{◌≡◌, ℕ, Bool, true, false, List, eqb, ℤ}
 use Rattle.laws.specs.Ascii.{ascii}
 use Rattle.laws.specs.Ladder.{when◌gives◌else◌}
 use Rattle.ledger.specs.Calls.{rows_in}
@@ -11,7 +11,6 @@ use Rattle.files.specs.Save.{Save}
 use Rattle.files.specs.Notes.{cannot_write, usage_line}
 use Rattle.loading.specs.Notes.{cannot_read, refused7, number_line}
 use Rattle.files.specs.declared.sending.Output.{Output}
-use Rattle.files.specs.declared.sending.Stream.{Stream}
 use Rattle.files.specs.Output.{output_of, Wrote}
 
 -- what refused the sheet, of r rows: 7; 17 with its row; 10 for the counts, or with its row
@@ -51,12 +50,12 @@ pub record Answered (bytes to : List ℕ) (forth : Bool) (out end : Output) : Ty
   pub wrote : Wrote out text end
 
 -- the two files were named, and this came of it
-pub record Done (output : Stream) (from to : List ℕ) (forth : Bool) (last : Output) : Type 0 where
+pub record Done (output : ℤ) (from to : List ℕ) (forth : Bool) (last : Output) : Type 0 where
   pub text : List ℕ
   pub turned : Turned from to forth text
   pub wrote : Wrote (output_of output) text last
 
 -- a whole run: with two words after the program's name they are the files'; with another number of them it says how it is called, and does nothing else
-pub data Ran (output : Stream) (call : List ℕ) (forth : Bool) : Type 0 where
+pub data Ran (output : ℤ) (call : List ℕ) (forth : Bool) : Type 0 where
   called_wrong : (n : ℕ) (last : Output) → Counts n → (n ≡ 3 → ⊥) → Wrote (output_of output) (usage_line call) last → Ran output call forth
   called : (from to : List ℕ) → Counts 3 → Called (words 1 from) → Called (words 2 to) → (last : Output) → Done output from to forth last → Ran output call forth

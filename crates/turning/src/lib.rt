@@ -6,7 +6,7 @@ ghost use Rattle.files.specs.Output.{Wrote};
 ghost use Rattle.turning.specs.Turning.{stop_line, Converted, Answered, Done, Ran};
 
 use conversion::Stop;
-use files::{Output, Stream, WORD};
+use files::{Output, WORD};
 use loading::{MOST, put_number};
 
 // What refused the sheet.
@@ -69,7 +69,7 @@ fn settle(
 fn turn(
     rt: &HostRuntime,
     program: &[u8],
-    output: Stream,
+    output: i32,
     from: &[u8],
     to: &[u8],
     forth: bool,
@@ -103,7 +103,7 @@ fn complain(rt: &HostRuntime, program: &[u8], ok: bool) {
 }
 
 // One run of the program of this name, which is called so.
-pub fn run(rt: &HostRuntime, program: &[u8], call: &[u8], output: Stream, forth: bool)
+pub fn run(rt: &HostRuntime, program: &[u8], call: &[u8], output: i32, forth: bool)
     ensures { Ran output call.now forth }
 {
     if files::word_count(rt) != 3 {

@@ -2,6 +2,8 @@
 // it works every line out again and writes how many lines there are and how many differ.
 #![tactic(auto)]
 
+ghost use Rattle.std.specs.Prelude.{◌≤◌};
+
 mod kinds;
 mod list;
 mod spelling;
@@ -28,11 +30,18 @@ fn tallied(rt: &HostRuntime, path: &[u8], kind: u8) -> Tally {
     tally
 }
 
+// How much of a word is taken: all of it, or none where it is longer than a path can be.
+fn kept(n: usize) -> usize
+    ensures { result ≤ n }
+{
+    if n > 4096 { 0 } else { n }
+}
+
 fn replay(rt: &HostRuntime, i: usize) {
     let mut kind = [0u8; WORD];
-    let k = files::word(rt, i, &mut kind);
+    let k = kept(files::word(rt, i, &mut kind));
     let mut path = [0u8; WORD];
-    let n = files::word(rt, std::num::wrapping_add_usize(i, 1), &mut path);
+    let n = kept(files::word(rt, std::num::wrapping_add_usize(i, 1), &mut path));
     let tally = tallied(rt, &path[..n], kinds::kind_of(&kind[..k]));
     rt.stdout().write_all(&path[..n]).is_ok();
     list::print(rt, tally);

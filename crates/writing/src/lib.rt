@@ -5,7 +5,7 @@ ghost use Rattle.files.specs.Output.{Wrote};
 ghost use Rattle.hexpage.specs.HexPage.{row_line, row_lines, count_line};
 ghost use Rattle.writing.specs.Writing.{written_text, Done, Ran};
 
-use files::{Output, Stream, WORD};
+use files::{Output, WORD};
 use hexpage::LINE;
 use loading::MOST;
 
@@ -58,7 +58,7 @@ fn write(rt: &HostRuntime, program: &[u8], out: Output, sheet: &[u8]) -> Output
 }
 
 // The file of this name as text, or that it can't be read.
-fn write_file(rt: &HostRuntime, program: &[u8], output: Stream, name: &[u8]) -> Output
+fn write_file(rt: &HostRuntime, program: &[u8], output: i32, name: &[u8]) -> Output
     ensures { Done output name.now result }
 {
     let mut file = [0u8; MOST];
@@ -77,7 +77,7 @@ fn write_file(rt: &HostRuntime, program: &[u8], output: Stream, name: &[u8]) -> 
 }
 
 // One run of the program of this name, which is called so.
-pub fn run(rt: &HostRuntime, program: &[u8], call: &[u8], output: Stream)
+pub fn run(rt: &HostRuntime, program: &[u8], call: &[u8], output: i32)
     ensures { Ran output call.now }
 {
     if files::word_count(rt) != 2 {

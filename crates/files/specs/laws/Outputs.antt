@@ -21,5 +21,5 @@ wrote_both {t = t} (sent piece rest ok e good c first) w =
 wrote_both {s = s} {t = t} (lost bad) w = still_lost (s ++ t) bad w
 
 -- one piece
-pub wrote_piece : {o : Output} {text : List ℕ} (ok : Bool) → o.ok ≡ true → Called (sends o.to o.sends text ok) → Wrote o text (after_send o ok)
+pub wrote_piece : {o : Output} {text : List ℕ} (ok : Bool) → o.ok ≡ true → Called (sends o.file o.sends text ok) → Wrote o text (after_send o ok)
 wrote_piece {text = text} ok good c = sent text [] ok (sym (append-nil text)) good c none

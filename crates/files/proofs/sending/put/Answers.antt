@@ -1,6 +1,5 @@
 -- Nothing more after a failure, or one more piece.
 use borrow.Author.Tests.{not-true, not-false}
-use Rattle.files.specs.Calls.{called}
 use Rattle.files.specs.Output.{lost}
 use Rattle.files.specs.laws.Outputs.{wrote_piece}
 use Rattle.files.proofs.sending.put.Goals as goal
@@ -11,4 +10,4 @@ returns-then-not-out c = lost (not-true _ c.if-not-out.true)
 pub returns : goal.returns
 returns c =
     rw c.wrapping_add_u64.ensures.value
-    (wrote_piece c.write.result (not-false _ c.if-not-out.false) (called _))
+    (wrote_piece c.send-ok.result (not-false _ c.if-not-out.false) c.send-ok.ensures)

@@ -1,10 +1,9 @@
 -- Another number of words, or the two files.
 use Rattle.std.proofs.Common.{subst}
 use Rattle.std.proofs.Math.Nat.{sub-zero}
+use mir.Syntax.{w32}
+use mir.ValLaws.{to_z-of_z}
 use Rattle.files.specs.Calls.{Counts}
-use Rattle.files.specs.Notes.{usage_line}
-use Rattle.files.specs.declared.sending.Output.{Output}
-use Rattle.files.specs.Output.{Wrote}
 use Rattle.comparing.specs.Comparing.{called_wrong, called}
 use Rattle.comparing.proofs.run.Goals as goal
 
@@ -12,7 +11,7 @@ pub returns-then-word_count-ne3 : goal.returns-then-word_count-ne3
 returns-then-word_count-ne3 c =
     let n = c.word_count in
     called_wrong n.result c.usage.result n.ensures c.if-word_count-ne3.true
-    (subst (λ (o : Output). Wrote o (usage_line c.args.call.now) c.usage.result) c.begin.ensures c.usage.ensures)
+    (rw (c.begin.ensures, to_z-of_z w32 c.args.output c.ranges.output) at c.usage.ensures)
 
 pub returns : goal.returns
 returns c =
@@ -20,4 +19,4 @@ returns c =
     let f = c.word-n in
     let t = c.word-m in
     let r = c.compare_files-end in
-    called _ _ (subst Counts c.if-word_count-ne3.false n.ensures) f.ensures.called t.ensures.called r.result (rw (sub-zero f.result, sub-zero t.result) at r.ensures)
+    called _ _ (subst Counts c.if-word_count-ne3.false n.ensures) f.ensures.called t.ensures.called r.result (rw (to_z-of_z w32 c.args.output c.ranges.output, sub-zero f.result, sub-zero t.result) at r.ensures)

@@ -1,4 +1,6 @@
 -- Read and written; there is no file to keep anything in.
+use mir.Syntax.{w32}
+use mir.ValLaws.{to_z-of_z}
 use mathlib.Core.Path.{refl}
 use mathlib.Core.Bool.{true}
 use Rattle.runner.specs.Run.{zeros}
@@ -17,5 +19,5 @@ returns c =
       ok = true;
       keeps = none refl;
       last = c.write_text-out.result;
-      wrote = c.write_text-out.ensures;
+      wrote = rw (to_z-of_z w32 c.args.output c.ranges.output) at c.write_text-out.ensures;
     }

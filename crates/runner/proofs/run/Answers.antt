@@ -1,4 +1,6 @@
 -- Begun, read, kept, written.
+use mir.Syntax.{w32}
+use mir.ValLaws.{to_z-of_z}
 use Rattle.std.proofs.Common.{refl}
 use Rattle.runner.specs.Run.{zeros}
 use Rattle.runner.specs.Done.{begun_of}
@@ -25,5 +27,5 @@ returns c =
       ok = c.keep-ok.result;
       keeps = c.keep-ok.ensures;
       last = c.write_page-out.result;
-      wrote = c.write_page-out.ensures;
+      wrote = rw (to_z-of_z w32 c.args.output c.ranges.output) at c.write_page-out.ensures;
     }

@@ -1,10 +1,10 @@
 -- Not read, or what comes of its bytes.
-use mathlib.Core.Path.{refl, subst}
+use mathlib.Core.Path.{refl}
 use native.Mathlib.Nat.{sub-zero}
+use mir.Syntax.{w32}
+use mir.ValLaws.{to_z-of_z}
 use borrow.Author.Tests.{not-true, not-false}
 use Rattle.loading.specs.Notes.{cannot_read}
-use Rattle.files.specs.declared.sending.Output.{Output}
-use Rattle.files.specs.Output.{Wrote}
 use Rattle.turning.specs.Turning.{unread, read}
 use Rattle.loading.specs.laws.Loads.{loaded_as}
 use Rattle.turning.proofs.turn.Goals as goal
@@ -15,7 +15,7 @@ returns-then-not-loaded c =
     record {
       text = cannot_read c.args.from.now;
       turned = unread (loaded_as (not-true l.result.ok c.if-not-loaded.true) l.ensures.load) refl;
-      wrote = subst (λ (o : Output). Wrote o (cannot_read c.args.from.now) c.cannot_read.result) (c.begin-out.ensures) c.cannot_read.ensures;
+      wrote = rw (c.begin-out.ensures, to_z-of_z w32 c.args.output c.ranges.output) at c.cannot_read.ensures;
     }
 
 pub returns : goal.returns
@@ -25,5 +25,5 @@ returns c =
     record {
       text = s.ensures.text;
       turned = read (loaded_as (not-false l.result.ok c.if-not-loaded.false) l.ensures.load) (rw (sub-zero l.result.length) at s.ensures.settled);
-      wrote = subst (λ (o : Output). Wrote o s.ensures.text s.result) (c.begin-out.ensures) s.ensures.wrote;
+      wrote = rw (c.begin-out.ensures, to_z-of_z w32 c.args.output c.ranges.output) at s.ensures.wrote;
     }

@@ -41,7 +41,7 @@ pub data Call : Type 0 where
   renames : List ℕ → List ℕ → Bool → Call
   -- std::fs::remove_file
   removes : List ℕ → Bool → Call
-  -- Print::write_all sent this text to an output, 1 or 2; a program numbers what it sends to each. Another output takes nothing
+  -- Print::write_all sent this text to an output, 1 or 2, or io::write_all to another; a program numbers what it sends to each
   sends : ℤ → ℕ → List ℕ → Bool → Call
   -- std::rt::Env::arg, asked whether there is a word of this number in the program's call
   has : ℕ → Bool → Call

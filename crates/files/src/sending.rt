@@ -3,7 +3,7 @@ ghost use Rattle.std.specs.Prelude.{◌≡◌};
 ghost use Rattle.files.specs.Calls.{Called, sends};
 ghost use Rattle.files.specs.Output.{output_of, Wrote};
 
-// Standard output and standard error. std knows no other output: any other takes nothing.
+// Standard output and standard error, which std writes; the kit's io writes any other output.
 pub const STDOUT: i32 = 1;
 
 pub const STDERR: i32 = 2;
@@ -36,7 +36,7 @@ fn send(rt: &HostRuntime, out: Output, text: &[u8]) -> bool
     if out.file == STDERR {
         return rt.stderr().write_all(text).is_ok();
     }
-    false
+    io::write_all(out.file, text)
 }
 
 // After a piece that was not taken whole no other is sent.

@@ -1,5 +1,4 @@
--- The call, of either; no call of another.
-use Rattle.std.proofs.Common.{false}
+-- The call, of each.
 use Rattle.files.specs.Calls.{called, sends}
 use Rattle.files.proofs.sending.send.Goals as goal
 
@@ -10,4 +9,4 @@ pub returns-then-out-eq-STDERR : goal.returns-then-out-eq-STDERR
 returns-then-out-eq-STDERR c = called (sends _ _ _ c.is_ok-then-out-eq-STDERR.result)
 
 pub returns : goal.returns
-returns c = called (sends _ _ _ false)
+returns c = called (sends _ _ _ c.write_all-2.result)

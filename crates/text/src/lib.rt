@@ -10,20 +10,45 @@ ghost use Rattle.text.specs.Writing.{Put, Puts};
 pub fn lacks(size: usize, at: usize, room: usize) -> bool
     ensures { result ≡ ltb size (at + room) }
 {
-    if size < room {
-        return true;
-    }
-    size - room < at
+    size < room || size - room < at
 }
+
+// How numbers are written: in a base, with so many digits at most, and with zeros in front, or with none.
+#[derive(Clone, Copy)]
+struct Form {
+    base: u64,
+    most: usize,
+    zeros: bool,
+    ghost in_range: { (1 < base) × (base ≤ 16) },
+    ghost short: { most < 256 },
+}
+
+const DECIMAL: Form = Form {
+    base: 10,
+    most: 20,
+    zeros: false,
+};
+
+const HEX: Form = Form {
+    base: 16,
+    most: 16,
+    zeros: false,
+};
+
+const PATTERN: Form = Form {
+    base: 16,
+    most: 16,
+    zeros: true,
+};
 
 fn glyph(d: u64) -> u8
     requires { d < 16 }
     ensures { result ≡ glyph_of d }
 {
     if d < 10 {
-        return 48 + d as u8;
+        return b'0' + d as u8;
     }
-    87 + d as u8
+    b'a' - 10 + d as u8
 }
 
 fn put_byte(out: &mut [u8], at: usize, b: u8) -> usize
@@ -34,19 +59,31 @@ fn put_byte(out: &mut [u8], at: usize, b: u8) -> usize
     at + 1
 }
 
-fn put_digits(out: &mut [u8], at: usize, all: bool, base: u64, k: usize, n: u64) -> usize
-    requires { (1 < base) × (base ≤ 16) × (at + k ≤ length out.old) }
-    ensures put { Put out.old out.new at result (digits_of all base k n) }
+// The last k digits.
+fn put_digits(out: &mut [u8], at: usize, form: Form, k: usize, n: u64) -> usize
+    requires { at + k ≤ length out.old }
+    ensures put { Put out.old out.new at result (digits_of form.zeros form.base k n) }
     ensures upper_bound { result ≤ at + k }
 {
     if k == 0 {
         return at;
     }
-    if !all & (n < base) {
+    if !form.zeros && n < form.base {
         return put_byte(out, at, glyph(n));
     }
-    let next = put_digits(out, at, all, base, k - 1, n / base);
-    put_byte(out, next, glyph(n % base))
+    let next = put_digits(out, at, form, k - 1, n / form.base);
+    put_byte(out, next, glyph(n % form.base))
+}
+
+// A number in a form, and the byte after it.
+fn put_number(out: &mut [u8], at: usize, form: Form, n: u64, after: u8) -> usize
+    ensures { Puts out.old out.new at result (form.most + 1) (digits_of form.zeros form.base form.most n ++ (after ∷ [])) }
+{
+    if lacks(out.len(), at, form.most + 1) {
+        return at;
+    }
+    let next = put_digits(out, at, form, form.most, n);
+    put_byte(out, next, after)
 }
 
 // Bytes as they are.
@@ -56,23 +93,16 @@ pub fn put_bytes(out: &mut [u8], at: usize, text: &[u8]) -> usize
     if lacks(out.len(), at, text.len()) {
         return at;
     }
-    let mut i: usize = 0;
-    while i < text.len() {
-        out[at + i] = text[i];
-        i += 1;
-    }
-    at + i
+    let end = at + text.len();
+    out[at..end].copy_from_slice(text);
+    end
 }
 
 // A number in decimal, and the byte after it.
 pub fn put_decimal(out: &mut [u8], at: usize, n: u64, after: u8) -> usize
     ensures { Puts out.old out.new at result 21 (decimal n ++ (after ∷ [])) }
 {
-    if lacks(out.len(), at, 21) {
-        return at;
-    }
-    let next = put_digits(out, at, false, 10, 20, n);
-    put_byte(out, next, after)
+    put_number(out, at, DECIMAL, n, after)
 }
 
 // A number in hex: all 16 digits, or none in front of the number.
@@ -82,18 +112,15 @@ pub fn put_hex(out: &mut [u8], at: usize, all: bool, n: u64) -> usize
     if lacks(out.len(), at, 16) {
         return at;
     }
-    put_digits(out, at, all, 16, 16, n)
+    let form = if all { PATTERN } else { HEX };
+    put_digits(out, at, form, 16, n)
 }
 
 // A bit pattern's 16 digits, and the byte after them.
 pub fn put_pattern(out: &mut [u8], at: usize, n: u64, after: u8) -> usize
     ensures { Puts out.old out.new at result 17 (pattern n ++ (after ∷ [])) }
 {
-    if lacks(out.len(), at, 17) {
-        return at;
-    }
-    let next = put_hex(out, at, true, n);
-    put_byte(out, next, after)
+    put_number(out, at, PATTERN, n, after)
 }
 
 // Three numbers, a space between them, and the byte after the last.
@@ -103,7 +130,7 @@ pub fn put_three(out: &mut [u8], at: usize, first: u64, second: u64, third: u64,
     if lacks(out.len(), at, 63) {
         return at;
     }
-    let a = put_decimal(out, at, first, 32);
-    let b = put_decimal(out, a, second, 32);
+    let a = put_decimal(out, at, first, b' ');
+    let b = put_decimal(out, a, second, b' ');
     put_decimal(out, b, third, after)
 }

@@ -4,14 +4,9 @@ use mathlib.Core.List.{[], ◌∷◌, ◌++◌, append_assoc}
 use lib.ListN.{length}
 use Rattle.text.specs.Text.{decimal, three, space}
 use Rattle.text.specs.laws.Digits.{field-most}
-use Rattle.text.specs.laws.Writing.{placed_three, puts_all, puts_none}
-use Rattle.text.specs.laws.Room.{has, has_not}
+use Rattle.text.specs.laws.Writing.{placed_three, puts_all}
+use Rattle.text.specs.laws.Room.{has}
 use Rattle.text.proofs.put_three.Goals as goal
-
-pub returns-then-lacks : goal.returns-then-lacks
-returns-then-lacks c =
-    let a = c.args in
-    puts_none a.out.now a.at 63 _ (has_not _ (length a.out.now) a.at 63 c.lacks.ensures c.if-lacks.true)
 
 pub returns : goal.returns
 unfolding three

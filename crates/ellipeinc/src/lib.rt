@@ -69,19 +69,17 @@ fn terms_from(m: f64, f: Outcome, d: Outcome, v: f64) -> Term
 fn two_terms(m: f64, c: f64, c1: f64) -> Term
     ensures { result ≡ two_terms_of m c c1 }
 {
-    let both = with_rf(c1, c - m, c);
-    let d = both.second;
-    terms_from(m, both.first, d, d.value)
+    let (f, d) = with_rf(c1, c - m, c);
+    terms_from(m, f, d, d.value)
 }
 
 // Of arguments that were scaled, RD's value is tested. Where nothing is scaled they are at most 2^201, and no term of RD can be lost for want of range.
 fn trusted_terms(m: f64, c: f64, c1: f64) -> Term
     ensures { result ≡ trusted_terms_of m c c1 }
 {
-    let both = with_rf(c1, c - m, c);
-    let d = both.second;
+    let (f, d) = with_rf(c1, c - m, c);
     let v = trusted(d.value);
-    terms_from(m, both.first, d, v)
+    terms_from(m, f, d, v)
 }
 
 // Both terms are positive for m < 0, and above CANCELLING their difference keeps its digits. Far out RD's own value is no f64, so the scaling stands here and not in RD.
@@ -102,9 +100,7 @@ fn below(m: f64, c: f64, c1: f64) -> Term
 fn above(m: f64, c: f64, c1: f64) -> Term
     ensures { result ≡ above_of m c c1 }
 {
-    let both = with_rf(c1, c, c - m);
-    let f = both.first;
-    let d = both.second;
+    let (f, d) = with_rf(c1, c, c - m);
     let t = root::root(c1 / (c * (c - m)));
     Term {
         value: (1.0 - m) * f.value + m * (1.0 - m) * d.value / 3.0 + m * t,

@@ -25,9 +25,7 @@ fn plain_term(value: f64) -> Term
 fn from_rest(n: f64, m: f64, rest: f64) -> Term
     ensures { result ≡ from_rest_of n m rest }
 {
-    let both = with_rf(0.0, 1.0 - m, 1.0, rest);
-    let f = both.first;
-    let j = both.second;
+    let (f, j) = with_rf(0.0, 1.0 - m, 1.0, rest);
     Term {
         value: f.value + n * j.value / 3.0,
         met: f.met & j.met,

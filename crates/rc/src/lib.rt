@@ -6,7 +6,7 @@
 ghost use Rattle.std.specs.Prelude.{◌≡◌};
 ghost use Rattle.rc.specs.Rc.{start_of, stops_of, round_of, closed_of, rc_of};
 
-use carlson::{Outcome, larger};
+use carlson::{Outcome, Recipe, farther};
 
 #[derive(Clone, Copy)]
 pub(crate) struct State {
@@ -16,44 +16,49 @@ pub(crate) struct State {
     pub distance: f64,
 }
 
+#[tactic(auto, unfolding(crate::specs::Rc::start_of))]
 impl State {
     fn start(x: f64, y: f64) -> State
         ensures { result ≡ start_of x y }
     {
         let mean = (x + y + y) / 3.0;
-        let dx = whole::magnitude(mean - x);
-        let dy = whole::magnitude(mean - y);
         State {
             x,
             y,
             mean,
-            distance: larger(dx, dy),
+            distance: farther(mean, x, y),
         }
     }
+}
 
-    fn stops(self) -> bool
-        ensures { result ≡ stops_of self }
-    {
+#[tactic(auto, unfolding(crate::specs::Rc::stops_of, crate::specs::Rc::round_of, crate::specs::Rc::closed_of, crate::specs::Rc::series_of))]
+impl Recipe for State {
+    ghost stops = { stops_of };
+
+    ghost round = { round_of };
+
+    ghost closed = { closed_of };
+
+    ghost stays = { λ _ _ _. tt };
+
+    fn stops(self) -> bool {
         self.distance < self.mean / 128.0
     }
 
-    fn round(self) -> State
-        ensures { result ≡ round_of self }
-    {
+    fn round(self) -> State {
         let rx = root::root(self.x);
         let ry = root::root(self.y);
         let l = 2.0 * rx * ry + self.y;
+        let moved = |a: f64| (a + l) / 4.0;
         State {
-            x: (self.x + l) / 4.0,
-            y: (self.y + l) / 4.0,
-            mean: (self.mean + l) / 4.0,
+            x: moved(self.x),
+            y: moved(self.y),
+            mean: moved(self.mean),
             distance: self.distance / 4.0,
         }
     }
 
-    fn closed(self, rounds: usize) -> Outcome
-        ensures { result ≡ closed_of self rounds }
-    {
+    fn closed(self, rounds: usize) -> Outcome {
         let s = (self.y - self.mean) / self.mean;
         let high = 9.0 / 22.0 + s * (159.0 / 208.0 + s * (9.0 / 8.0));
         let series = 1.0 + s * s * (3.0 / 10.0 + s * (1.0 / 7.0 + s * (3.0 / 8.0 + s * high)));
@@ -66,17 +71,9 @@ impl State {
     }
 }
 
+#[tactic(auto, unfolding(crate::specs::Rc::rc_of, carlson::specs::Loop::finish_of, carlson::specs::Loop::duplicated))]
 pub fn rc(x: f64, y: f64) -> Outcome
     ensures { result ≡ rc_of x y }
 {
-    let mut s = State::start(x, y);
-    let mut k = 0usize;
-    while k < 64 {
-        if s.stops() {
-            return s.closed(k);
-        }
-        s = s.round();
-        k += 1;
-    }
-    s.closed(k)
+    State::start(x, y).finish(0)
 }

@@ -1,10 +1,10 @@
 -- RD(x, y, z) by duplication (01, module 5; DLMF 19.36(i); Carlson 1995), operation by operation. Definitions only.
-use Rattle.std.specs.Prelude.{ℕ, ◌-◌, Bool, Float}
+use Rattle.std.specs.Prelude.{ℕ, Bool, Float}
 use Rattle.std.specs.Float.Ieee.{neg}
 use Rattle.laws.specs.Arithmetic.{◌⊕◌, ◌⊖◌, ◌⊗◌, ◌⊘◌, ◌<·◌, +0, 1·0, 3·0, 4·0, 5·0, 6·0, 8·0, 1024·0}
 use Rattle.root.specs.Root.{root_of}
 use Rattle.whole.specs.Whole.{magnitude_of}
-use Rattle.carlson.specs.Loop.{iterate, duplicated}
+use Rattle.carlson.specs.Loop.{duplicated}
 use Rattle.carlson.specs.Series.{fifth_of, larger_of}
 use Rattle.rf.specs.Rf.{roots_of}
 use Rattle.carlson.specs.declared.Outcome.{Outcome}
@@ -42,10 +42,6 @@ series_of s =
 
 unfoldable pub closed_of : State → ℕ → Outcome
 closed_of s rounds = record { value = s.scale ⊗ series_of s ⊘ (s.mean ⊗ root_of s.mean) ⊕ 3·0 ⊗ s.sum; met = stops_of s; rounds = rounds; inside = 0 }
-
--- the rest of the run, from s after k rounds
-unfoldable pub finish_of : State → ℕ → Outcome
-finish_of s k = iterate stops_of round_of closed_of (64 - k) k (stops_of s) s
 
 unfoldable pub rd_of : Float → Float → Float → Outcome
 rd_of x y z = duplicated stops_of round_of closed_of (start_of x y z)

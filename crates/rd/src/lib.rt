@@ -6,10 +6,11 @@
 
 ghost use Rattle.std.specs.Prelude.{◌≡◌};
 ghost use Rattle.rf.specs.Rf.{rf_of};
-ghost use Rattle.rd.specs.Rd.{start_of, stops_of, next_of, round_of, closed_of, finish_of, rd_of};
+ghost use Rattle.rd.specs.Rd.{start_of, stops_of, next_of, round_of, closed_of, rd_of};
+ghost use Rattle.rd.specs.laws.Moves.{rd_recipe, rd_moves, rd_by_roots};
 
-use carlson::{Both, Outcome, fifth, larger};
-use rf::{Roots, roots_of};
+use carlson::{Outcome, Recipe, farther, fifth, larger};
+use rf::{Rooted, Roots, roots_of, together};
 
 // `scale` is 4^-k after k rounds, `sum` what the rounds have added. It is open to laws; no public function takes it.
 #[derive(Clone, Copy)]
@@ -23,57 +24,43 @@ pub struct State {
     pub sum: f64,
 }
 
+#[tactic(auto, unfolding(crate::specs::Rd::start_of))]
 impl State {
     fn start(x: f64, y: f64, z: f64) -> State
         ensures { result ≡ start_of x y z }
     {
         let mean = (x + y + 3.0 * z) / 5.0;
-        let dx = whole::magnitude(mean - x);
-        let dy = whole::magnitude(mean - y);
-        let dz = whole::magnitude(mean - z);
-        let near = larger(dx, dy);
         State {
             x,
             y,
             z,
             mean,
-            distance: larger(near, dz),
+            distance: larger(farther(mean, x, y), whole::magnitude(mean - z)),
             scale: 1.0,
             sum: 0.0,
         }
     }
+}
 
-    fn stops(self) -> bool
-        ensures { result ≡ stops_of self }
-    {
+#[tactic(auto, unfolding(crate::specs::Rd::stops_of, crate::specs::Rd::round_of, crate::specs::Rd::closed_of, crate::specs::Rd::series_of))]
+impl Recipe for State {
+    ghost stops = { stops_of };
+
+    ghost round = { round_of };
+
+    ghost closed = { closed_of };
+
+    ghost stays = { λ _ _ _. tt };
+
+    fn stops(self) -> bool {
         self.distance < self.mean / 1024.0
     }
 
-    // A round, the roots being at hand.
-    fn next(self, w: Roots) -> State
-        ensures { result ≡ next_of self w }
-    {
-        let l = w.spread;
-        State {
-            x: (self.x + l) / 4.0,
-            y: (self.y + l) / 4.0,
-            z: (self.z + l) / 4.0,
-            mean: (self.mean + l) / 4.0,
-            distance: self.distance / 4.0,
-            scale: self.scale / 4.0,
-            sum: self.sum + self.scale / (w.z * (self.z + l)),
-        }
+    fn round(self) -> State {
+        self.round_by(self.roots())
     }
 
-    fn round(self) -> State
-        ensures { result ≡ round_of self }
-    {
-        self.next(roots_of(self.x, self.y, self.z))
-    }
-
-    fn closed(self, rounds: usize) -> Outcome
-        ensures { result ≡ closed_of self rounds }
-    {
+    fn closed(self, rounds: usize) -> Outcome {
         let x = (self.mean - self.x) / self.mean;
         let y = (self.mean - self.y) / self.mean;
         let z = -(x + y) / 3.0;
@@ -93,42 +80,43 @@ impl State {
             inside: 0,
         }
     }
+}
 
-    // What is left of RD after k rounds.
-    fn finish(self, k: usize) -> Outcome
-        ensures { result ≡ finish_of self k }
-    {
-        let mut s = self;
-        let mut j = k;
-        while j < 64 {
-            if s.stops() {
-                return s.closed(j);
-            }
-            s = s.round();
-            j += 1;
+#[tactic(auto, unfolding(crate::specs::Rd::next_of))]
+impl Rooted for State {
+    ghost at = { rd_recipe.at };
+
+    ghost next = { next_of };
+
+    ghost by_roots = { rd_by_roots };
+
+    ghost moves = { rd_moves };
+
+    fn roots(self) -> Roots {
+        roots_of(self.x, self.y, self.z)
+    }
+
+    fn round_by(self, w: Roots) -> State {
+        let l = w.spread;
+        let moved = |a: f64| (a + l) / 4.0;
+        State {
+            x: moved(self.x),
+            y: moved(self.y),
+            z: moved(self.z),
+            mean: moved(self.mean),
+            distance: self.distance / 4.0,
+            scale: self.scale / 4.0,
+            sum: self.sum + self.scale / (w.z * (self.z + l)),
         }
-        s.closed(j)
     }
 }
 
-// RF and RD of the same arguments. Their rounds take the same roots: while neither stops they make them together, each root taken once; then each goes on alone.
-pub fn with_rf(x: f64, y: f64, z: f64) -> Both
-    ensures { (result.first ≡ rf_of x y z) × (result.second ≡ rd_of x y z) }
+// RF and RD of the same arguments, which share the roots of their rounds.
+#[tactic(auto, unfolding(rf::specs::Rf::start_of, rf::specs::Rf::rf_of, crate::specs::Rd::start_of, crate::specs::Rd::rd_of))]
+pub fn with_rf(x: f64, y: f64, z: f64) -> (Outcome, Outcome)
+    ensures { (result.0 ≡ rf_of x y z) × (result.1 ≡ rd_of x y z) }
 {
-    let mut f = rf::State::start(x, y, z);
-    let mut d = State::start(x, y, z);
-    let mut k = 0usize;
-    while k < 64 {
-        if f.stops() | d.stops() {
-            break;
-        }
-        let w = roots_of(d.x, d.y, d.z);
-        f = f.next(w.spread);
-        d = d.next(w);
-        k += 1;
-    }
-    Both {
-        first: f.finish(k),
-        second: d.finish(k),
-    }
+    let f = rf::State::start(x, y, z);
+    let d = State::start(x, y, z);
+    together(f, d)
 }

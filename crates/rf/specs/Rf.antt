@@ -1,10 +1,10 @@
 -- RF(x, y, z) by duplication (01, module 5; DLMF 19.36(i); Carlson 1995), operation by operation. Definitions only.
-use Rattle.std.specs.Prelude.{ℕ, ◌-◌, Bool, Float}
+use Rattle.std.specs.Prelude.{ℕ, Bool, Float}
 use Rattle.std.specs.Float.Ieee.{neg}
 use Rattle.laws.specs.Arithmetic.{◌⊕◌, ◌⊖◌, ◌⊗◌, ◌⊘◌, ◌<·◌, 1·0, 3·0, 4·0, 10·0, 14·0, 24·0, 44·0, 512·0}
 use Rattle.root.specs.Root.{root_of}
 use Rattle.whole.specs.Whole.{magnitude_of}
-use Rattle.carlson.specs.Loop.{iterate, duplicated}
+use Rattle.carlson.specs.Loop.{duplicated}
 use Rattle.carlson.specs.Series.{larger_of}
 use Rattle.carlson.specs.declared.Outcome.{Outcome}
 use Rattle.rf.specs.declared.Roots.{Roots}
@@ -47,10 +47,6 @@ series_of s =
 
 unfoldable pub closed_of : State → ℕ → Outcome
 closed_of s rounds = record { value = series_of s ⊘ root_of s.mean; met = stops_of s; rounds = rounds; inside = 0 }
-
--- the rest of the run, from s after k rounds
-unfoldable pub finish_of : State → ℕ → Outcome
-finish_of s k = iterate stops_of round_of closed_of (64 - k) k (stops_of s) s
 
 unfoldable pub rf_of : Float → Float → Float → Outcome
 rf_of x y z = duplicated stops_of round_of closed_of (start_of x y z)

@@ -3,10 +3,14 @@
 // The distance between the mean and the farthest argument is quartered; once it is below mean / 512 the arguments are so near to their mean that a series of fifth order closes.
 #![tactic(auto)]
 
-ghost use Rattle.std.specs.Prelude.{◌≡◌};
-ghost use Rattle.rf.specs.Rf.{start_of, stops_of, roots_of, next_of, round_of, closed_of, finish_of, rf_of};
+ghost use Rattle.std.specs.Prelude.{◌≡◌, ℕ, ◌+◌, ◌<◌};
+ghost use Rattle.carlson.specs.Loop.{duplicated};
+ghost use Rattle.rf.specs.Rf.{start_of, stops_of, roots_of, next_of, round_of, closed_of, rf_of};
+ghost use Rattle.rf.specs.Arguments.{Arguments, roots_at, moved};
+ghost use Rattle.rf.specs.laws.Moves.{rf_recipe, rf_moves, rf_by_roots};
+ghost use Rattle.rf.specs.declared.Roots.{Roots};
 
-use carlson::{Outcome, larger};
+use carlson::{Outcome, Recipe, farther, larger};
 
 // What a round of RF, RD or RJ takes of its arguments: their roots, and L = √x√y + √y√z + √z√x.
 #[derive(Clone, Copy)]
@@ -17,6 +21,7 @@ pub struct Roots {
     pub spread: f64,
 }
 
+#[tactic(auto, unfolding(crate::specs::Rf::roots_of))]
 pub fn roots_of(x: f64, y: f64, z: f64) -> Roots
     ensures { result ≡ roots_of x y z }
 {
@@ -29,6 +34,46 @@ pub fn roots_of(x: f64, y: f64, z: f64) -> Roots
     }
 }
 
+// A recipe over x, y and z, which makes its round of their roots.
+pub trait Rooted: Recipe {
+    ghost at: { Self → Arguments };
+
+    ghost next: { Self → Roots → Self };
+
+    fn roots(self) -> Roots
+        ensures { result ≡ roots_at (at self) };
+
+    // A round, the roots being at hand.
+    fn round_by(self, w: Roots) -> Self
+        requires { (k : ℕ) × (k < 64) × Self.reached self k }
+        ensures { result ≡ next self w };
+
+    ghost by_roots: { (s : Self) → next s (roots_at (at s)) ≡ Self.round s };
+
+    ghost moves: { (s : Self) → at (Self.round s) ≡ moved (at s) };
+}
+
+// Two recipes of the same x, y and z: while neither stops they make their rounds together, each root taken once; then each goes on alone.
+pub fn together<A: Rooted, B: Rooted>(a: A, b: B) -> (Outcome, Outcome)
+    requires same { A.at a ≡ B.at b }
+    requires first { A.reached a 0 }
+    requires second { B.reached b 0 }
+    ensures first { result.0 ≡ duplicated A.stops A.round A.closed a }
+    ensures second { result.1 ≡ duplicated B.stops B.round B.closed b }
+{
+    let mut s = a;
+    let mut t = b;
+    for k in 0..64 {
+        if s.stops() | t.stops() {
+            return (s.finish(k), t.finish(k));
+        }
+        let w = t.roots();
+        s = s.round_by(w);
+        t = t.round_by(w);
+    }
+    (s.closed(64), t.closed(64))
+}
+
 // Three arguments, their mean, and the distance that the stop test reads. RD and RJ of the same arguments make RF's rounds with their own, which saves its roots.
 #[derive(Clone, Copy)]
 pub struct State {
@@ -39,53 +84,55 @@ pub struct State {
     pub distance: f64,
 }
 
+#[tactic(auto, unfolding(crate::specs::Rf::start_of, crate::specs::Rf::next_of))]
 impl State {
     pub fn start(x: f64, y: f64, z: f64) -> State
         ensures { result ≡ start_of x y z }
     {
         let mean = (x + y + z) / 3.0;
-        let dx = whole::magnitude(mean - x);
-        let dy = whole::magnitude(mean - y);
-        let dz = whole::magnitude(mean - z);
-        let near = larger(dx, dy);
         State {
             x,
             y,
             z,
             mean,
-            distance: larger(near, dz),
+            distance: larger(farther(mean, x, y), whole::magnitude(mean - z)),
         }
-    }
-
-    pub fn stops(self) -> bool
-        ensures { result ≡ stops_of self }
-    {
-        self.distance < self.mean / 512.0
     }
 
     // A round, L being at hand.
     pub fn next(self, l: f64) -> State
         ensures { result ≡ next_of self l }
     {
+        let moved = |a: f64| (a + l) / 4.0;
         State {
-            x: (self.x + l) / 4.0,
-            y: (self.y + l) / 4.0,
-            z: (self.z + l) / 4.0,
-            mean: (self.mean + l) / 4.0,
+            x: moved(self.x),
+            y: moved(self.y),
+            z: moved(self.z),
+            mean: moved(self.mean),
             distance: self.distance / 4.0,
         }
     }
+}
 
-    fn round(self) -> State
-        ensures { result ≡ round_of self }
-    {
-        let w = roots_of(self.x, self.y, self.z);
-        self.next(w.spread)
+#[tactic(auto, unfolding(crate::specs::Rf::stops_of, crate::specs::Rf::round_of, crate::specs::Rf::roots_of, crate::specs::Rf::closed_of, crate::specs::Rf::series_of))]
+impl Recipe for State {
+    ghost stops = { stops_of };
+
+    ghost round = { round_of };
+
+    ghost closed = { closed_of };
+
+    ghost stays = { λ _ _ _. tt };
+
+    fn stops(self) -> bool {
+        self.distance < self.mean / 512.0
     }
 
-    fn closed(self, rounds: usize) -> Outcome
-        ensures { result ≡ closed_of self rounds }
-    {
+    fn round(self) -> State {
+        self.round_by(self.roots())
+    }
+
+    fn closed(self, rounds: usize) -> Outcome {
         let x = (self.mean - self.x) / self.mean;
         let y = (self.mean - self.y) / self.mean;
         let z = -(x + y);
@@ -99,24 +146,27 @@ impl State {
             inside: 0,
         }
     }
+}
 
-    // What is left of RF after k rounds.
-    pub fn finish(self, k: usize) -> Outcome
-        ensures { result ≡ finish_of self k }
-    {
-        let mut s = self;
-        let mut j = k;
-        while j < 64 {
-            if s.stops() {
-                return s.closed(j);
-            }
-            s = s.round();
-            j += 1;
-        }
-        s.closed(j)
+impl Rooted for State {
+    ghost at = { rf_recipe.at };
+
+    ghost next = { λ s w. next_of s w.spread };
+
+    ghost by_roots = { rf_by_roots };
+
+    ghost moves = { rf_moves };
+
+    fn roots(self) -> Roots {
+        roots_of(self.x, self.y, self.z)
+    }
+
+    fn round_by(self, w: Roots) -> State {
+        self.next(w.spread)
     }
 }
 
+#[tactic(auto, unfolding(crate::specs::Rf::rf_of, carlson::specs::Loop::finish_of, carlson::specs::Loop::duplicated))]
 pub fn rf(x: f64, y: f64, z: f64) -> Outcome
     ensures { result ≡ rf_of x y z }
 {

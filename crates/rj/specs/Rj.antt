@@ -1,10 +1,10 @@
 -- RJ(x, y, z, p) by duplication (01, module 5; DLMF 19.36(i); Carlson 1995), operation by operation. Definitions only.
-use Rattle.std.specs.Prelude.{ℕ, ◌+◌, ◌-◌, Bool, true, ◌&&◌, Float}
+use Rattle.std.specs.Prelude.{ℕ, ◌+◌, Bool, true, ◌&&◌, Float}
 use Rattle.std.specs.Float.Ieee.{neg}
 use Rattle.laws.specs.Arithmetic.{◌⊕◌, ◌⊖◌, ◌⊗◌, ◌⊘◌, ◌<·◌, +0, 1·0, 2·0, 3·0, 4·0, 5·0, 6·0, 1024·0}
 use Rattle.root.specs.Root.{root_of}
 use Rattle.whole.specs.Whole.{magnitude_of}
-use Rattle.carlson.specs.Loop.{iterate, duplicated}
+use Rattle.carlson.specs.Loop.{duplicated}
 use Rattle.carlson.specs.Series.{fifth_of, larger_of, trusted_of}
 use Rattle.rf.specs.Rf.{roots_of}
 use Rattle.rc.specs.Rc.{rc_of}
@@ -50,10 +50,6 @@ series_of s =
 
 unfoldable pub closed_of : State → ℕ → Outcome
 closed_of s rounds = record { value = trusted_of (s.scale ⊗ series_of s ⊘ (s.mean ⊗ root_of s.mean) ⊕ 6·0 ⊗ s.sum); met = stops_of s && s.inner; rounds = rounds; inside = s.inside }
-
--- the rest of the run, from s after k rounds
-unfoldable pub finish_of : State → ℕ → Outcome
-finish_of s k = iterate stops_of round_of closed_of (64 - k) k (stops_of s) s
 
 unfoldable pub rj_of : Float → Float → Float → Float → Outcome
 rj_of x y z p = duplicated stops_of round_of closed_of (start_of x y z p)

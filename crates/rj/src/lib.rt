@@ -8,10 +8,12 @@
 
 ghost use Rattle.std.specs.Prelude.{◌≡◌, ◌*◌, ◌≤◌};
 ghost use Rattle.rf.specs.Rf.{rf_of};
-ghost use Rattle.rj.specs.Rj.{start_of, stops_of, next_of, round_of, closed_of, finish_of, rj_of};
+ghost use Rattle.rj.specs.Rj.{start_of, stops_of, next_of, round_of, closed_of, rj_of};
+ghost use Rattle.rj.specs.laws.Counts.{grows};
+ghost use Rattle.rj.specs.laws.Moves.{rj_recipe, rj_moves, rj_by_roots};
 
-use carlson::{Both, Outcome, fifth, larger, trusted};
-use rf::{Roots, roots_of};
+use carlson::{Outcome, Recipe, farther, fifth, larger, trusted};
+use rf::{Rooted, Roots, roots_of, together};
 
 // As RD's, and as open; `inner` says whether every RC so far was met, `inside` counts their rounds.
 #[derive(Clone, Copy)]
@@ -28,70 +30,48 @@ pub struct State {
     pub inside: usize,
 }
 
+#[tactic(auto, unfolding(crate::specs::Rj::start_of))]
 impl State {
     fn start(x: f64, y: f64, z: f64, p: f64) -> State
         ensures { result ≡ start_of x y z p }
     {
         let mean = (x + y + z + 2.0 * p) / 5.0;
-        let dx = whole::magnitude(mean - x);
-        let dy = whole::magnitude(mean - y);
-        let dz = whole::magnitude(mean - z);
-        let dp = whole::magnitude(mean - p);
-        let near = larger(dx, dy);
-        let far = larger(dz, dp);
         State {
             x,
             y,
             z,
             p,
             mean,
-            distance: larger(near, far),
+            distance: larger(farther(mean, x, y), farther(mean, z, p)),
             scale: 1.0,
             sum: 0.0,
             inner: true,
             inside: 0,
         }
     }
+}
 
-    fn stops(self) -> bool
-        ensures { result ≡ stops_of self }
-    {
+#[tactic(auto, unfolding(crate::specs::Rj::stops_of, crate::specs::Rj::round_of, crate::specs::Rj::closed_of, crate::specs::Rj::series_of))]
+impl Recipe for State {
+    ghost stops = { stops_of };
+
+    ghost round = { round_of };
+
+    ghost closed = { closed_of };
+
+    ghost reached = { λ s k. s.inside ≤ 64 * k };
+
+    ghost stays = { grows };
+
+    fn stops(self) -> bool {
         self.distance < self.mean / 1024.0
     }
 
-    // A round, the roots of x, y and z being at hand. 2√p(p + L)/d is Carlson's 1 + e, without the difference that cancels where e is near -1.
-    fn next(self, w: Roots) -> State
-        requires { self.inside ≤ 4032 }
-        ensures { result ≡ next_of self w }
-    {
-        let l = w.spread;
-        let rp = root::root(self.p);
-        let d = (rp + w.x) * (rp + w.y) * (rp + w.z);
-        let inner = rc::rc(1.0, 2.0 * rp * (self.p + l) / d);
-        State {
-            x: (self.x + l) / 4.0,
-            y: (self.y + l) / 4.0,
-            z: (self.z + l) / 4.0,
-            p: (self.p + l) / 4.0,
-            mean: (self.mean + l) / 4.0,
-            distance: self.distance / 4.0,
-            scale: self.scale / 4.0,
-            sum: self.sum + self.scale / d * inner.value,
-            inner: self.inner & inner.met,
-            inside: self.inside + inner.rounds,
-        }
+    fn round(self) -> State {
+        self.round_by(self.roots())
     }
 
-    fn round(self) -> State
-        requires { self.inside ≤ 4032 }
-        ensures { result ≡ round_of self }
-    {
-        self.next(roots_of(self.x, self.y, self.z))
-    }
-
-    fn closed(self, rounds: usize) -> Outcome
-        ensures { result ≡ closed_of self rounds }
-    {
+    fn closed(self, rounds: usize) -> Outcome {
         let x = (self.mean - self.x) / self.mean;
         let y = (self.mean - self.y) / self.mean;
         let z = (self.mean - self.z) / self.mean;
@@ -103,57 +83,64 @@ impl State {
         let e4 = (2.0 * xyz + e2 * p + 3.0 * pp * p) * p;
         let series = fifth(e2, e3, e4, xyz * pp);
         let tail = self.scale * series / (self.mean * root::root(self.mean));
-        let value = trusted(tail + 6.0 * self.sum);
         Outcome {
-            value,
+            value: trusted(tail + 6.0 * self.sum),
             met: self.stops() & self.inner,
             rounds,
             inside: self.inside,
         }
     }
+}
 
-    // What is left of RJ after k rounds.
-    fn finish(self, k: usize) -> Outcome
-        requires { self.inside ≤ 64 * k }
-        ensures { result ≡ finish_of self k }
-    {
-        let mut s = self;
-        let mut j = k;
-        while j < 64 {
-            if s.stops() {
-                return s.closed(j);
-            }
-            s = s.round();
-            j += 1;
+#[tactic(auto, unfolding(crate::specs::Rj::next_of))]
+impl Rooted for State {
+    ghost at = { rj_recipe.at };
+
+    ghost next = { next_of };
+
+    ghost by_roots = { rj_by_roots };
+
+    ghost moves = { rj_moves };
+
+    fn roots(self) -> Roots {
+        roots_of(self.x, self.y, self.z)
+    }
+
+    // 2√p(p + L)/d is Carlson's 1 + e, without the difference that cancels where e is near -1.
+    fn round_by(self, w: Roots) -> State {
+        let l = w.spread;
+        let rp = root::root(self.p);
+        let d = (rp + w.x) * (rp + w.y) * (rp + w.z);
+        let inner = rc::rc(1.0, 2.0 * rp * (self.p + l) / d);
+        let moved = |a: f64| (a + l) / 4.0;
+        State {
+            x: moved(self.x),
+            y: moved(self.y),
+            z: moved(self.z),
+            p: moved(self.p),
+            mean: moved(self.mean),
+            distance: self.distance / 4.0,
+            scale: self.scale / 4.0,
+            sum: self.sum + self.scale / d * inner.value,
+            inner: self.inner & inner.met,
+            inside: self.inside + inner.rounds,
         }
-        s.closed(j)
     }
 }
 
+#[tactic(auto, unfolding(crate::specs::Rj::rj_of, crate::specs::Rj::start_of, carlson::specs::Loop::finish_of, carlson::specs::Loop::duplicated))]
 pub fn rj(x: f64, y: f64, z: f64, p: f64) -> Outcome
     ensures { result ≡ rj_of x y z p }
 {
     State::start(x, y, z, p).finish(0)
 }
 
-// RF and RJ of the same x, y and z. Their rounds take the same roots: while neither stops they make them together, each root taken once; then each goes on alone.
-pub fn with_rf(x: f64, y: f64, z: f64, p: f64) -> Both
-    ensures { (result.first ≡ rf_of x y z) × (result.second ≡ rj_of x y z p) }
+// RF and RJ of the same x, y and z, which share the roots of their rounds.
+#[tactic(auto, unfolding(rf::specs::Rf::start_of, rf::specs::Rf::rf_of, crate::specs::Rj::start_of, crate::specs::Rj::rj_of))]
+pub fn with_rf(x: f64, y: f64, z: f64, p: f64) -> (Outcome, Outcome)
+    ensures { (result.0 ≡ rf_of x y z) × (result.1 ≡ rj_of x y z p) }
 {
-    let mut f = rf::State::start(x, y, z);
-    let mut j = State::start(x, y, z, p);
-    let mut k = 0usize;
-    while k < 64 {
-        if f.stops() | j.stops() {
-            break;
-        }
-        let w = roots_of(j.x, j.y, j.z);
-        f = f.next(w.spread);
-        j = j.next(w);
-        k += 1;
-    }
-    Both {
-        first: f.finish(k),
-        second: j.finish(k),
-    }
+    let f = rf::State::start(x, y, z);
+    let j = State::start(x, y, z, p);
+    together(f, j)
 }

@@ -178,7 +178,7 @@ fn duplicated(kind: u8, s: &[u8]) -> Outcome {
         return rf::rf(x, y, z);
     }
     if kind == 17 {
-        return rd::with_rf(x, y, z).second;
+        return rd::with_rf(x, y, z).1;
     }
     rj::rj(x, y, z, float(s, 51))
 }

@@ -1,4 +1,4 @@
--- One return for each side of the test.
+-- 0.0 / 0.0 is the NaN.
 use lib.Ieee.{div, of_bits}
 use Rattle.carlson.specs.Series.{trusted_of}
 use Rattle.carlson.proofs.trusted.Goals as goal
@@ -6,7 +6,3 @@ use Rattle.carlson.proofs.trusted.Goals as goal
 pub returns-then-v : goal.returns-then-v
 unfolding trusted_of div of_bits
 returns-then-v c = simp c.if-v.true
-
-pub returns-else-v : goal.returns-else-v
-unfolding trusted_of
-returns-else-v c = simp c.if-v.false

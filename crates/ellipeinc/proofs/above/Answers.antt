@@ -6,7 +6,7 @@ use Rattle.ellipeinc.proofs.above.Goals as goal
 
 pub overflow_add-result : goal.overflow_add-result
 overflow_add-result c =
-    let most = both_few _ _ _ c.with_rf-both.ensures in
+    let most = both_few _ _ _ c.with_rf.ensures in
     let f = most.0 in
     let d = most.1 in
     omega arith
@@ -14,5 +14,5 @@ overflow_add-result c =
 pub returns : goal.returns
 unfolding above_of
 returns c =
-    let both = c.with_rf-both.ensures in
+    let both = c.with_rf.ensures in
     rw (c.root-t.ensures, both.0, both.1)

@@ -4,10 +4,10 @@ use Rattle.ellipeinc.proofs.Few.{both_few}
 use Rattle.ellipeinc.proofs.two_terms.Goals as goal
 
 pub terms_from-requires : goal.terms_from-requires
-terms_from-requires c = both_few _ _ _ c.with_rf-both.ensures
+terms_from-requires c = both_few _ _ _ c.with_rf.ensures
 
 pub returns : goal.returns
 unfolding two_terms_of
 returns c =
-    let both = c.with_rf-both.ensures in
+    let both = c.with_rf.ensures in
     rw (c.terms_from.ensures, both.0, both.1)

@@ -1,9 +1,8 @@
 -- RF among the recipes that make their rounds together. Assumes nothing.
 use Rattle.std.specs.Prelude.{◌≡◌, refl}
-use Rattle.std.proofs.Common.{sym, ap, ◌∙◌}
-use Rattle.rf.specs.Rf.{spread_of, roots_of, stops_of, next_of, round_of, closed_of}
-use Rattle.rf.specs.declared.Roots.{Roots}
-use Rattle.rf.specs.laws.Together.{Arguments, Recipe, Moves}
+use Rattle.rf.specs.Rf.{roots_of, stops_of, next_of, round_of, closed_of}
+use Rattle.rf.specs.Arguments.{roots_at}
+use Rattle.rf.specs.laws.Together.{Recipe, Moves}
 use Rattle.rf.specs.declared.State.{State}
 
 abbrev pub rf_recipe : Recipe State
@@ -13,7 +12,6 @@ pub rf_moves : Moves rf_recipe
 unfolding round_of next_of
 rf_moves s = refl
 
--- with the roots of another recipe's arguments, which are the same
-pub alongside : (s t : State) (a : Arguments) (w : Roots) → rf_recipe.at s ≡ a → w ≡ roots_of a.x a.y a.z → t ≡ next_of s w.spread → t ≡ round_of s
+pub rf_by_roots : (s : State) → next_of s (roots_at (rf_recipe.at s)).spread ≡ round_of s
 unfolding round_of roots_of
-alongside s t a w same e h = h ∙ ap (λ (w : Roots). next_of s w.spread) e ∙ ap (λ (a : Arguments). next_of s (spread_of a.x a.y a.z)) (sym same)
+rf_by_roots s = refl

@@ -1,22 +1,11 @@
 -- Two recipes of the same x, y and z that make their rounds together, argued once: RF with RD, and RF with RJ. Assumes nothing.
-use Rattle.std.specs.Prelude.{◌≡◌, refl, Bool, true, false, ◌||◌, ℕ, ◌<◌, ◌+◌, Float}
+use Rattle.std.specs.Prelude.{◌≡◌, refl, Bool, true, false, ◌||◌, ℕ, ◌<◌, ◌+◌}
 use Rattle.std.proofs.Common.{sym, ap, ◌∙◌, true≢false}
-use Rattle.laws.specs.Arithmetic.{◌⊕◌, ◌⊘◌, 4·0}
 use Rattle.carlson.specs.Loop.{duplicated}
-use Rattle.rf.specs.Rf.{spread_of}
+use Rattle.rf.specs.Arguments.{Arguments, roots_at, moved}
+use Rattle.rf.specs.declared.Roots.{Roots}
 use Rattle.carlson.specs.declared.Outcome.{Outcome}
 use Rattle.carlson.specs.laws.Duplication.{Holds, at_next}
-
-pub record Arguments : Type 0 where
-  pub x : Float
-  pub y : Float
-  pub z : Float
-
--- each becomes (itself + L) / 4
-abbrev pub moved : Arguments → Arguments
-moved a =
-    let l = spread_of a.x a.y a.z in
-    record { x = (a.x ⊕ l) ⊘ 4·0; y = (a.y ⊕ l) ⊘ 4·0; z = (a.z ⊕ l) ⊘ 4·0 }
 
 -- a recipe over states S, of which `at` reads x, y and z
 pub record Recipe (S : Type 0) : Type 0 where
@@ -27,6 +16,10 @@ pub record Recipe (S : Type 0) : Type 0 where
 
 abbrev pub Moves : {S : Type 0} → Recipe S → Type 0
 Moves {S} p = (s : S) → p.at (p.round s) ≡ moved (p.at s)
+
+-- a round by the roots of another recipe's arguments, which are the same
+pub alongside : {S : Type 0} (p : Recipe S) (next : S → Roots → S) → ((s : S) → next s (roots_at (p.at s)) ≡ p.round s) → (s s' : S) (a : Arguments) (w : Roots) → p.at s ≡ a → w ≡ roots_at a → s' ≡ next s w → s' ≡ p.round s
+alongside p next by s s' a w same e h = h ∙ ap (next s) (e ∙ ap roots_at (sym same)) ∙ by s
 
 -- both have made k rounds, each run gives its own outcome, and both stand at the same arguments
 pub record Together {S T : Type 0} (p : Recipe S) (q : Recipe T) (first second : Outcome) (s : S) (t : T) (k : ℕ) : Type 0 where

@@ -1,7 +1,0 @@
--- The body is the definition, each call replaced by what it ensures.
-use Rattle.rf.specs.Rf.{roots_of, round_of}
-use Rattle.rf.proofs.State.round.Goals as goal
-
-pub returns : goal.returns
-unfolding roots_of round_of
-returns c = rw (c.next.ensures, c.roots_of-w.ensures)

@@ -1,8 +1,0 @@
--- The body is the definition, each call replaced by what it ensures.
-use Rattle.rf.specs.Rf.{start_of}
-use Rattle.rf.proofs.State.start.Goals as goal
-
-pub returns : goal.returns
-unfolding start_of
-returns c =
-    rw (c.larger.ensures, c.larger-near.ensures, c.magnitude-dz.ensures, c.magnitude-dy.ensures, c.magnitude-dx.ensures)

@@ -1,2 +1,0 @@
--- How many inner rounds there can be.
-mod Counts

@@ -1,8 +1,0 @@
--- The body is the definition, each call replaced by what it ensures.
-use Rattle.rj.specs.Rj.{series_of, closed_of}
-use Rattle.rj.proofs.State.closed.Goals as goal
-
-pub returns : goal.returns
-unfolding series_of closed_of
-returns c =
-    rw (c.trusted-value.ensures, c.fifth-series.ensures, c.root.ensures, c.stops.ensures)

@@ -12,7 +12,7 @@ ghost use Rattle.rd.specs.laws.Moves.{rd_recipe, rd_moves, rd_by_roots};
 use carlson::{Outcome, Recipe, farther, fifth, larger};
 use rf::{Rooted, Roots, roots_of, together};
 
-// `scale` is 4^-k after k rounds, `sum` what the rounds have added. It is open to laws; no public function takes it.
+// `scale` is 4^-k after k rounds, `sum` what the rounds have added. It is open to laws; only the methods of `Recipe` and `Rooted` take it.
 #[derive(Clone, Copy)]
 pub struct State {
     pub x: f64,

@@ -1,4 +1,5 @@
 -- Sine and cosine, as their steps give them, lie near the exact sums and within ±1. One closing for both. Assumes nothing.
+use Rattle.std.specs.Prelude.{Result, Ok, Err}
 use mathlib.Core.Path.{◌≡◌, refl, sym, ap, ◌∙◌, subst}
 use mathlib.Core.Logic.{◌⊎◌, inr}
 use mathlib.Core.Bool.{Bool, true, false, not, cond}
@@ -14,7 +15,9 @@ use lib.Ieee.Exact.{HasValue}
 use lib.Ieee.Scale.{round_same}
 use Rattle.laws.specs.laws.Exact.{round_self}
 use Rattle.answer.specs.declared.Answer.{Answer}
-use Rattle.answer.specs.declared.Answer.TheVariants.{One, Refused}
+use Rattle.answer.specs.declared.Refusal.{Refusal}
+use Rattle.answer.specs.declared.Answer.TheVariants.{One}
+use Rattle.answer.specs.declared.Refusal.TheVariants.{OutOfRange}
 use Rattle.answer.specs.Answer.{OneThat}
 use Rattle.bounds.specs.Fractions.{◌over◌, AtMost}
 use Rattle.angle.specs.Series.{taylor, UpToFour, SineWithin, CosineWithin, UpToOne}
@@ -139,7 +142,7 @@ module _ (p q : ℕ) (hq : 0 < q) (hp : p ≤ 4 * q) (s : Bool) where
 
 -- ---- the answers
 module _ (f : Bool → ℕ → ℕ → Float) where
-  angle : (Q : Bool → ℕ → ℕ → Answer → Type 0) → ((s : Bool) (m : ℕ) (e : ℤ) → T (fits binary64 (fin s m e)) → m * up e ≤ 4 * down e → Q s (m * up e) (down e) (One (f s (m * up e) (down e))))
+  angle : (Q : Bool → ℕ → ℕ → Result Answer Refusal → Type 0) → ((s : Bool) (m : ℕ) (e : ℤ) → T (fits binary64 (fin s m e)) → m * up e ≤ 4 * down e → Q s (m * up e) (down e) (Ok (One (f s (m * up e) (down e)))))
       → (x : Float) → T (fits binary64 x) → UpToFour Q x (up_to_four f x)
   unfolding UpToFour up_to_four
   angle Q h nan g = refl
@@ -147,7 +150,7 @@ module _ (f : Bool → ℕ → ℕ → Float) where
   angle Q h (fin s m e) g = go (ltb (4 * down e) (m * up e)) (nltb→le (4 * down e) (m * up e))
     where
       go : (b : Bool) → (T (not b) → m * up e ≤ 4 * down e)
-          → cond b (cond b (Refused 12) (One (f s (m * up e) (down e))) ≡ Refused 12) (Q s (m * up e) (down e) (cond b (Refused 12) (One (f s (m * up e) (down e)))))
+          → cond b (cond b (Err OutOfRange) (Ok (One (f s (m * up e) (down e)))) ≡ Err OutOfRange) (Q s (m * up e) (down e) (cond b (Err OutOfRange) (Ok (One (f s (m * up e) (down e))))))
       go true c = refl
       go false c = h s m e g (c tt)
 
@@ -158,7 +161,7 @@ module _ (f : Bool → ℕ → ℕ → Float) where
   in_unit h (inf s) g t n k e = absurd (let z : ◌≡◌ {A = ℕ} 0 1 = cc in omega arith)
   in_unit h (fin s m e') g t n k e = go (ltb (4 * down e') (m * up e')) (nltb→le (4 * down e') (m * up e')) e
     where
-      go : (b : Bool) → (T (not b) → m * up e' ≤ 4 * down e') → cond b (Refused 12) (One (f s (m * up e') (down e'))) ≡ One (fin t n k) → AtMost (n * up k over down k) (1 over 1)
+      go : (b : Bool) → (T (not b) → m * up e' ≤ 4 * down e') → cond b (Err OutOfRange) (Ok (One (f s (m * up e') (down e')))) ≡ Ok (One (fin t n k)) → AtMost (n * up k over down k) (1 over 1)
       go true c e = absurd (let z : ◌≡◌ {A = ℕ} 0 1 = cc in omega arith)
       go false c e = h s m e' g (c tt) t n k (cc)
 
@@ -179,12 +182,12 @@ unfolding cosine_of
 cosine_up_to_one = in_unit cosine_at (λ s m e f c t n g h. cosine_le (m * up e) (down e) (down_pos e) c s t n g h)
 
 -- ---- the contracts, from the steps: 2^60 units are 2^12 of 2^-48, 2^14 of 2^-46 and 2^8 of 2^-52
-pub sine_promise : (x : Float) (r : Answer) → T (fits binary64 x) → r ≡ sine_of x → (r ≡ sine_of x) × SineWithin 48 x r × SineWithin 52 x r × UpToOne r
+pub sine_promise : (x : Float) (r : Result Answer Refusal) → T (fits binary64 x) → r ≡ sine_of x → (r ≡ sine_of x) × SineWithin 48 x r × SineWithin 52 x r × UpToOne r
 sine_promise x r f e =
-    subst (λ (a : Answer). (a ≡ sine_of x) × SineWithin 48 x a × SineWithin 52 x a × UpToOne a) (sym e)
+    subst (λ (a : Result Answer Refusal). (a ≡ sine_of x) × SineWithin 48 x a × SineWithin 52 x a × UpToOne a) (sym e)
     (refl, sine_within (2 ^ 12) 48 refl (lit≤ tt) x f, sine_within (2 ^ 8) 52 refl (lit≤ tt) x f, sine_up_to_one x f)
 
-pub cosine_promise : (x : Float) (r : Answer) → T (fits binary64 x) → r ≡ cosine_of x → (r ≡ cosine_of x) × CosineWithin 46 x r × CosineWithin 52 x r × UpToOne r
+pub cosine_promise : (x : Float) (r : Result Answer Refusal) → T (fits binary64 x) → r ≡ cosine_of x → (r ≡ cosine_of x) × CosineWithin 46 x r × CosineWithin 52 x r × UpToOne r
 cosine_promise x r f e =
-    subst (λ (a : Answer). (a ≡ cosine_of x) × CosineWithin 46 x a × CosineWithin 52 x a × UpToOne a) (sym e)
+    subst (λ (a : Result Answer Refusal). (a ≡ cosine_of x) × CosineWithin 46 x a × CosineWithin 52 x a × UpToOne a) (sym e)
     (refl, cosine_within (2 ^ 14) 46 refl (lit≤ tt) x f, cosine_within (2 ^ 8) 52 refl (lit≤ tt) x f, cosine_up_to_one x f)

@@ -1,4 +1,5 @@
 -- From what the code of sine and cosine tests and calls to their definitions. Assumes nothing.
+use Rattle.std.specs.Prelude.{Ok, Err}
 use mathlib.Core.Path.{◌≡◌, refl, sym, ap, ap₂, ◌∙◌, subst}
 use mathlib.Core.Bool.{Bool, true, false, not, cond, ◌||◌, true≢false}
 use Prim.Native.Nat.{ℕ, zero, suc, ◌+◌, ◌-◌, ◌*◌, ◌/◌, ◌^◌, ◌≤◌, ◌<◌, zero-le, min}
@@ -18,7 +19,8 @@ use Rattle.laws.specs.laws.Digits.{pow_lt_back}
 use Rattle.laws.specs.laws.Kinds.{nan_of_lem}
 use Rattle.bits.specs.Parts.{PartsOf}
 use Rattle.bits.specs.Rounded.{rounded_of}
-use Rattle.answer.specs.declared.Answer.TheVariants.{One, Refused}
+use Rattle.answer.specs.declared.Answer.TheVariants.{One}
+use Rattle.answer.specs.declared.Refusal.TheVariants.{NotANumber, OutOfRange}
 use Rattle.bounds.specs.Close.{distance_of}
 use Rattle.angle.specs.Alternating.{square_of, alternating_of, up_to_four, Viewed}
 use Rattle.angle.specs.Sine.{sine_at, sine_of}
@@ -42,25 +44,25 @@ far_is false m e = or-none (ltb (4 * down e) (m * up e * 1)) ∙ ap (ltb (4 * do
 far_is true m e = ap (ltb (4 * down e)) (mul-one (m * up e))
 
 module _ (f : Bool → ℕ → ℕ → Float) where
-  pub refused_nan : (x : Float) → ne x x ≡ true → Refused 1 ≡ up_to_four f x
+  pub refused_nan : (x : Float) → ne x x ≡ true → Err NotANumber ≡ up_to_four f x
   unfolding up_to_four
   refused_nan x h = ap (up_to_four f) (sym (nan_of_lem x h))
 
-  pub refused_far : (x : Float) → ne x x ≡ false → far x ≡ true → Refused 12 ≡ up_to_four f x
+  pub refused_far : (x : Float) → ne x x ≡ false → far x ≡ true → Err OutOfRange ≡ up_to_four f x
   unfolding up_to_four ne eq
   refused_far nan n h = absurd (true≢false n)
   refused_far (inf s) n h = refl
-  refused_far (fin s m e) n h = ap (λ (b : Bool). cond b (Refused 12) (One (f s (m * up e) (down e)))) (sym h ∙ far_is s m e)
+  refused_far (fin s m e) n h = ap (λ (b : Bool). cond b (Err OutOfRange) (Ok (One (f s (m * up e) (down e))))) (sym h ∙ far_is s m e)
 
   -- any fraction of x serves, if f sees the fraction alone
   answered : ((s : Bool) (p q a c : ℕ) → 0 < q → 0 < c → p * c ≡ a * q → f s p q ≡ f s a c)
-      → (x : Float) (s : Bool) (a c : ℕ) → 0 < c → a ≤ 4 * c → HasValue x s a c → One (f s a c) ≡ up_to_four f x
+      → (x : Float) (s : Bool) (a c : ℕ) → 0 < c → a ≤ 4 * c → HasValue x s a c → Ok (One (f s a c)) ≡ up_to_four f x
   unfolding up_to_four
   answered same nan s a c C h v = absurd v
   answered same (inf t) s a c C h v = absurd v
   answered same (fin t m e) s a c C h v =
-      ap One (sym (same s (m * up e) (down e) a c (down_pos e) C v.1) ∙ ap (λ (b : Bool). f b (m * up e) (down e)) (sym v.0))
-      ∙ ap (λ (b : Bool). cond b (Refused 12) (One (f t (m * up e) (down e)))) (sym (is_false (ltb (4 * down e) (m * up e)) (not-above (ltb (4 * down e) (m * up e)) (ltb→lt (4 * down e) (m * up e)))))
+      ap (λ (v : Float). Ok (One v)) (sym (same s (m * up e) (down e) a c (down_pos e) C v.1) ∙ ap (λ (b : Bool). f b (m * up e) (down e)) (sym v.0))
+      ∙ ap (λ (b : Bool). cond b (Err OutOfRange) (Ok (One (f t (m * up e) (down e))))) (sym (is_false (ltb (4 * down e) (m * up e)) (not-above (ltb (4 * down e) (m * up e)) (ltb→lt (4 * down e) (m * up e)))))
     where
       le : m * up e ≤ 4 * down e
       le = le_of_mul-le-mul_right (go (m * up e) (down e) v.1) C
@@ -109,21 +111,8 @@ module _ (x : Float) (is_finite negative : Bool) (digits exponent : ℕ) (n : ne
       let l = near_le x negative (digits * 2 ^ exponent) (2 ^ 1074) h value in
       (d.digits, exponent_le digits exponent d.lead l, l)
 
-  pub viewed : (square : ℕ) → square ≡ square_of (digits * 2 ^ exponent) (2 ^ 1074) → Viewed x 0 negative digits exponent square
-  viewed square e = record { refuses = λ k. absurd (lt_irrefl 0 k); value = λ z. value; most = λ z. bounds.2; room = λ z. bounds.1; square_is = λ z. e }
-
-pub viewed_refused : (x : Float) (n digits exponent square : ℕ) (negative : Bool) → 0 < n → ((f : Bool → ℕ → ℕ → Float) → Refused n ≡ up_to_four f x) → (r : ℕ) → r ≡ n → Viewed x r negative digits exponent square
-viewed_refused x n digits exponent square negative h k r e =
-    record {
-      refuses = λ z f. ap Refused e ∙ k f;
-      value = λ z. absurd (none z);
-      most = λ z. absurd (none z);
-      room = λ z. absurd (none z);
-      square_is = λ z. absurd (none z);
-    }
-  where
-    none : r ≡ 0 → ⊥
-    none z = omega arith
+  pub viewed : (square : ℕ) → square ≡ square_of (digits * 2 ^ exponent) (2 ^ 1074) → Viewed x negative digits exponent square
+  viewed square e = record { value = value; most = bounds.2; room = bounds.1; square_is = e }
 
 -- ---- the definitions see the fraction alone
 square-same : (p q a c : ℕ) → 0 < q → 0 < c → p * c ≡ a * q → square_of p q ≡ square_of a c
@@ -162,30 +151,24 @@ cosine_same : (s : Bool) (p q a c : ℕ) → 0 < q → 0 < c → p * c ≡ a * q
 unfolding cosine_at
 cosine_same s p q a c Q C e = ap cosine_by (square-same p q a c Q C e)
 
--- ---- what a view that does not refuse leads to
-module _ {x : Float} {refusal : ℕ} {negative : Bool} {digits exponent square : ℕ} (view : Viewed x refusal negative digits exponent square) (h : refusal ≤ 0) where
-  z : refusal ≡ 0
-  z = omega arith
-
-  pub view_room : exponent ≤ 1024
-  view_room = view.room z
-
+-- ---- what a view leads to
+module _ {x : Float} {negative : Bool} {digits exponent square : ℕ} (view : Viewed x negative digits exponent square) where
   pub view_square : square ≤ 2 ^ 63
-  view_square = subst (λ (t : ℕ). t ≤ 2 ^ 63) (sym (view.square_is z)) (square_le (digits * 2 ^ exponent) (2 ^ 1074) (pow_pos 1074) (view.most z))
+  view_square = subst (λ (t : ℕ). t ≤ 2 ^ 63) (sym view.square_is) (square_le (digits * 2 ^ exponent) (2 ^ 1074) (pow_pos 1074) view.most)
 
   pub is_sine : {b : Balance} → b ≡ alternating_of square 1 20
-      → {r : Float} → r ≡ round binary64 (unlike negative (ltb b.added b.taken)) (digits * 2 ^ exponent * distance_of b.added b.taken) (2 ^ 1074 * 2 ^ 60) → One r ≡ sine_of x
+      → {r : Float} → r ≡ round binary64 (unlike negative (ltb b.added b.taken)) (digits * 2 ^ exponent * distance_of b.added b.taken) (2 ^ 1074 * 2 ^ 60) → Ok (One r) ≡ sine_of x
   unfolding sine_of sine_at
   is_sine eb er =
-      ap One (er ∙ ap at (eb ∙ ap (λ (t : ℕ). alternating_of t 1 20) (view.square_is z))) ∙ answered sine_at sine_same x negative (digits * 2 ^ exponent) (2 ^ 1074) (pow_pos 1074) (view.most z) (view.value z)
+      ap (λ (v : Float). Ok (One v)) (er ∙ ap at (eb ∙ ap (λ (t : ℕ). alternating_of t 1 20) view.square_is)) ∙ answered sine_at sine_same x negative (digits * 2 ^ exponent) (2 ^ 1074) (pow_pos 1074) view.most view.value
     where
       at : Balance → Float
       at c = round binary64 (unlike negative (ltb c.added c.taken)) (digits * 2 ^ exponent * distance_of c.added c.taken) (2 ^ 1074 * 2 ^ 60)
 
-  pub is_cosine : {r : Float} → r ≡ cosine_by (min square (2 ^ 63)) → One r ≡ cosine_of x
+  pub is_cosine : {r : Float} → r ≡ cosine_by (min square (2 ^ 63)) → Ok (One r) ≡ cosine_of x
   unfolding cosine_of cosine_at
   is_cosine e =
-      ap One (e ∙ ap cosine_by (min-eq_left view_square ∙ view.square_is z)) ∙ answered cosine_at cosine_same x negative (digits * 2 ^ exponent) (2 ^ 1074) (pow_pos 1074) (view.most z) (view.value z)
+      ap (λ (v : Float). Ok (One v)) (e ∙ ap cosine_by (min-eq_left view_square ∙ view.square_is)) ∙ answered cosine_at cosine_same x negative (digits * 2 ^ exponent) (2 ^ 1074) (pow_pos 1074) view.most view.value
 
 -- ---- the one rounding counts in 2^-2340, the sum in 2^-60, and x in 2^-1074
 abbrev sum_unit : ℕ

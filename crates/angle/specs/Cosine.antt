@@ -1,8 +1,9 @@
 -- The steps of cosine: docs/STEPS.md, "Cosine". Definitions only.
-use Rattle.std.specs.Prelude.{Bool, ℕ, ◌^◌, ltb, Float}
+use Rattle.std.specs.Prelude.{Bool, ℕ, ◌^◌, ltb, Float, Result}
 use Rattle.std.specs.Float.{binary64}
 use Rattle.std.specs.Float.Ieee.{round}
 use Rattle.answer.specs.declared.Answer.{Answer}
+use Rattle.answer.specs.declared.Refusal.{Refusal}
 use Rattle.bounds.specs.Close.{distance_of}
 use Rattle.angle.specs.Alternating.{square_of, alternating_of, up_to_four}
 
@@ -16,5 +17,5 @@ cosine_by t =
 unfoldable pub cosine_at : Bool → ℕ → ℕ → Float
 cosine_at s p q = cosine_by (square_of p q)
 
-unfoldable pub cosine_of : Float → Answer
+unfoldable pub cosine_of : Float → Result Answer Refusal
 cosine_of = up_to_four cosine_at

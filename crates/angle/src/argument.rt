@@ -1,8 +1,9 @@
 // What sine and cosine see of their argument.
-ghost use Rattle.std.specs.Prelude.{◌≡◌, ◌*◌, ◌/◌, ◌^◌, ◌≤◌, ◌<◌};
-ghost use Rattle.angle.specs.Alternating.{square_of, Viewed};
+ghost use Rattle.std.specs.Prelude.{◌≡◌, ◌*◌, ◌/◌, ◌^◌, ◌≤◌, ◌<◌, MatchResult};
+ghost use Rattle.angle.specs.Alternating.{square_of, Refuses, Viewed};
 
 use super::series::scaled;
+use answer::Refusal;
 use bits::parts;
 
 // 2^-59 as a power of two times the smallest f64, 2^-1074.
@@ -31,43 +32,29 @@ fn square(digits: u64, exponent: u64) -> u64
     scaled(x, x)
 }
 
-// A refusal number, or 0, and then ± digits * 2^exponent smallest f64, at most 4, with its square.
+// ± digits * 2^exponent smallest f64, at most 4, with its square.
 #[derive(Clone, Copy)]
 pub struct Angle {
-    pub refusal: u8,
     pub negative: bool,
     pub digits: u64,
     pub exponent: u64,
     pub square: u64,
 }
 
-fn refused(number: u8) -> Angle
-    ensures { result.refusal ≡ number }
-{
-    Angle {
-        refusal: number,
-        negative: false,
-        digits: 0,
-        exponent: 0,
-        square: 0,
-    }
-}
-
-pub fn view(x: f64) -> Angle
-    ensures { Viewed x result.refusal result.negative result.digits result.exponent result.square }
+pub fn view(x: f64) -> Result<Angle, Refusal>
+    ensures { MatchResult result (λ a. Viewed x a.negative a.digits a.exponent a.square) (λ r. Refuses x r) }
 {
     if x != x {
-        return refused(1);
+        return Err(Refusal::NotANumber);
     }
     if (x > 4.0) | (x < -4.0) {
-        return refused(12);
+        return Err(Refusal::OutOfRange);
     }
     let p = parts(x);
-    Angle {
-        refusal: 0,
+    Ok(Angle {
         negative: p.negative,
         digits: p.digits,
         exponent: p.exponent,
         square: square(p.digits, p.exponent),
-    }
+    })
 }

@@ -18,7 +18,7 @@ ghost use Rattle.angle.specs.Cosine.{cosine_by, cosine_of};
 mod argument;
 mod series;
 
-use answer::Answer;
+use answer::{Answer, Refusal};
 pub use argument::{Angle, view};
 use bits::{product, rounded};
 use series::{Balance, even, odd};
@@ -76,21 +76,18 @@ pub fn cosine_by(square: u64) -> f64
 }
 
 // Within |x| 2^-52 of x - x^3/3! + .. + x^41/41!, never above 1, odd, and x itself for |x| < 2^-30.
-pub fn sine(x: f64) -> Answer
+pub fn sine(x: f64) -> Result<Answer, Refusal>
     ensures { (result ≡ sine_of x) × SineWithin 48 x result × SineWithin 52 x result × UpToOne result }
 {
-    let a = view(x);
-    if a.refusal > 0 {
-        return Answer::Refused(a.refusal);
-    }
-    Answer::One(sine_from(a, odd(a.square)))
+    let a = view(x)?;
+    Ok(Answer::One(sine_from(a, odd(a.square))))
 }
 
 // The two answers of one angle.
 #[derive(Clone, Copy)]
 pub struct Circle {
-    pub sine: Answer,
-    pub cosine: Answer,
+    pub sine: Result<Answer, Refusal>,
+    pub cosine: Result<Answer, Refusal>,
 }
 
 // Sine as above; cosine within 2^-52 of 1 - x^2/2! + .. - x^42/42!, never above 1, and even. x is seen once, and neither sum waits for the other.
@@ -98,16 +95,17 @@ pub fn sine_cosine(x: f64) -> Circle
     ensures sine_value { (result.sine ≡ sine_of x) × SineWithin 48 x result.sine × SineWithin 52 x result.sine × UpToOne result.sine }
     ensures cosine_value { (result.cosine ≡ cosine_of x) × CosineWithin 46 x result.cosine × CosineWithin 52 x result.cosine × UpToOne result.cosine }
 {
-    let a = view(x);
-    if a.refusal > 0 {
-        return Circle {
-            sine: Answer::Refused(a.refusal),
-            cosine: Answer::Refused(a.refusal),
-        };
-    }
-    let c = cosine_by(a.square);
-    Circle {
-        sine: Answer::One(sine_from(a, odd(a.square))),
-        cosine: Answer::One(c),
+    match view(x) {
+        Ok(a) => {
+            let c = cosine_by(a.square);
+            Circle {
+                sine: Ok(Answer::One(sine_from(a, odd(a.square)))),
+                cosine: Ok(Answer::One(c)),
+            }
+        }
+        Err(r) => Circle {
+            sine: Err(r),
+            cosine: Err(r),
+        },
     }
 }

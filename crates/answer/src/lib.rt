@@ -2,8 +2,8 @@
 #![tactic(auto)]
 
 ghost use Rattle.std.specs.Prelude.{◌≡◌};
-ghost use Rattle.answer.specs.Answer.{refusal_of, first_of, second_of, value_of};
-ghost use Rattle.answer.specs.Numbers.{stored as Numbers·stored};
+ghost use Rattle.answer.specs.Answer.{first, second, refusal_of, first_of, second_of, value_of};
+ghost use Rattle.answer.specs.Numbers.{number, stored as Numbers·stored};
 ghost use Rattle.answer.specs.Settle.{infinite_of, finite_of, settled_of, handed_of, unasked_of};
 
 // The last function's number; above it is refusal 9.
@@ -26,13 +26,75 @@ pub struct Characteristic(pub f64);
 #[derive(Clone, Copy)]
 pub struct Parameter(pub f64);
 
-// One finite answer, a pair, an infinity (true: -∞), or a refusal by its number.
+// Why there is no answer, or why a call changes nothing (01 and 02); its number is the documents'.
+#[derive(Clone, Copy, PartialEq, Eq)]
+pub enum Refusal {
+    // an argument is NaN
+    NotANumber = 1,
+    // m > 1
+    AboveOne = 2,
+    // m sin²φ ≥ 1
+    Beyond = 3,
+    // n = 1
+    CharacteristicOne = 4,
+    // a recipe's stop test, after 64 rounds
+    Unmet = 5,
+    NotFinite = 6,
+    NotASheet = 7,
+    NoSuchRow = 8,
+    NoSuchFunction = 9,
+    // the row to be replaced, or the counts
+    Damaged = 10,
+    TooManyRows = 11,
+    // the logarithm's argument, or sine's and cosine's
+    OutOfRange = 12,
+    // the row counts of two sheets
+    Unequal = 13,
+    // a row that was driven other than once has no place in an old sheet
+    DrivenOften = 17,
+    // a line of text
+    Malformed = 18,
+    // function 1 is not entered any more
+    Withdrawn = 22,
+}
+
+impl Refusal {
+    pub fn number(self) -> u8
+        ensures { result ≡ number self }
+    {
+        self as u8
+    }
+}
+
+// One finite answer, a pair, or an infinity (true: -∞).
 #[derive(Clone, Copy)]
 pub enum Answer {
     One(f64),
     Pair(f64, f64),
     Infinite(bool),
-    Refused(u8),
+}
+
+impl Answer {
+    // The value, or the first of a pair.
+    pub fn first(self) -> f64
+        ensures { result ≡ first self }
+    {
+        match self {
+            Answer::One(x) => x,
+            Answer::Pair(x, _) => x,
+            Answer::Infinite(negative) => infinity(negative),
+        }
+    }
+
+    // The second of a pair; +0 where there is none.
+    pub fn second(self) -> f64
+        ensures { result ≡ second self }
+    {
+        match self {
+            Answer::Pair(_, y) => y,
+            _ => 0.0,
+        }
+    }
 }
 
 // An answer read out: its refusal number, 0 where there is none, and its two values, +0 where there is none.
@@ -55,13 +117,13 @@ pub struct Term {
 // An answer, and the rounds of all recipes that were asked for it.
 #[derive(Clone, Copy)]
 pub struct Counted {
-    pub answer: Answer,
+    pub answer: Result<Answer, Refusal>,
     pub rounds: usize,
 }
 
 // ±∞; true is -∞.
 pub fn infinity(negative: bool) -> f64
-    ensures { result ≡ first_of (Answer.Infinite negative) }
+    ensures { result ≡ first (Answer.Infinite negative) }
 {
     if negative {
         return f64::from_bits(0xfff0_0000_0000_0000);
@@ -69,30 +131,17 @@ pub fn infinity(negative: bool) -> f64
     f64::from_bits(0x7ff0_0000_0000_0000)
 }
 
-pub fn read(answer: Answer) -> Readout
+pub fn read(answer: Result<Answer, Refusal>) -> Readout
     ensures { result ≡ record { refusal = refusal_of answer; first = first_of answer; second = second_of answer } }
 {
     match answer {
-        Answer::One(x) => Readout {
+        Ok(a) => Readout {
             refusal: 0,
-            first: x,
-            second: 0.0,
+            first: a.first(),
+            second: a.second(),
         },
-        Answer::Pair(x, y) => Readout {
-            refusal: 0,
-            first: x,
-            second: y,
-        },
-        Answer::Infinite(negative) => {
-            let x = infinity(negative);
-            Readout {
-                refusal: 0,
-                first: x,
-                second: 0.0,
-            }
-        }
-        Answer::Refused(n) => Readout {
-            refusal: n,
+        Err(r) => Readout {
+            refusal: r.number(),
             first: 0.0,
             second: 0.0,
         },
@@ -100,14 +149,12 @@ pub fn read(answer: Answer) -> Readout
 }
 
 // The first value, and NaN where the answer is a refusal: the Rust's `unwrap_or(nan!())`.
-pub fn value(answer: Answer) -> f64
+pub fn value(answer: Result<Answer, Refusal>) -> f64
     ensures { result ≡ value_of answer }
 {
     match answer {
-        Answer::One(x) => x,
-        Answer::Pair(x, y) => x,
-        Answer::Infinite(negative) => infinity(negative),
-        Answer::Refused(n) => 0.0 / 0.0,
+        Ok(a) => a.first(),
+        Err(_) => 0.0 / 0.0,
     }
 }
 
@@ -117,40 +164,40 @@ pub fn infinite(v: f64) -> bool
     (v == f64::from_bits(0x7ff0_0000_0000_0000)) | (v == f64::from_bits(0xfff0_0000_0000_0000))
 }
 
-fn finite(v: f64) -> Answer
+fn finite(v: f64) -> Result<Answer, Refusal>
     ensures { result ≡ finite_of v }
 {
     if (v != v) | infinite(v) {
-        return Answer::Refused(6);
+        return Err(Refusal::NotFinite);
     }
-    Answer::One(v)
+    Ok(Answer::One(v))
 }
 
 // A formula whose infinities are no answer: 5 where a recipe was not met, then 6.
-pub fn settled(met: bool, v: f64) -> Answer
+pub fn settled(met: bool, v: f64) -> Result<Answer, Refusal>
     ensures { result ≡ settled_of met v }
 {
     if !met {
-        return Answer::Refused(5);
+        return Err(Refusal::Unmet);
     }
     finite(v)
 }
 
 // One whose infinities are: 6 for NaN alone.
-pub fn handed(v: f64) -> Answer
+pub fn handed(v: f64) -> Result<Answer, Refusal>
     ensures { result ≡ handed_of v }
 {
     if v != v {
-        return Answer::Refused(6);
+        return Err(Refusal::NotFinite);
     }
     if infinite(v) {
-        return Answer::Infinite(v < 0.0);
+        return Ok(Answer::Infinite(v < 0.0));
     }
-    Answer::One(v)
+    Ok(Answer::One(v))
 }
 
 // An answer for which no recipe is asked.
-pub fn unasked(answer: Answer) -> Counted
+pub fn unasked(answer: Result<Answer, Refusal>) -> Counted
     ensures { result ≡ unasked_of answer }
 {
     Counted { answer, rounds: 0 }

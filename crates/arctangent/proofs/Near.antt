@@ -1,4 +1,5 @@
 -- The arc tangent, as its steps give it, lies near the exact sum. Assumes nothing.
+use Rattle.std.specs.Prelude.{Result}
 use mathlib.Core.Path.{◌≡◌, refl, sym, ap, ◌∙◌, subst}
 use mathlib.Core.Logic.{◌⊎◌, inr}
 use mathlib.Core.Bool.{Bool, true, false, not, cond}
@@ -18,6 +19,7 @@ use Rattle.laws.specs.Ladder.{held}
 use Rattle.laws.specs.laws.Exact.{round_self}
 use Rattle.laws.specs.laws.Flags.{holds, fails}
 use Rattle.answer.specs.declared.Answer.{Answer}
+use Rattle.answer.specs.declared.Refusal.{Refusal}
 use Rattle.answer.specs.Answer.{OneThat}
 use Rattle.bounds.specs.Fractions.{Difference, ◌over◌}
 use Rattle.bounds.specs.Close.{distance_of, Close}
@@ -203,5 +205,5 @@ within k d h l (inf s) f = sides_close s right_sides (quarter and quarter) (loos
 within k d h l (fin s m e) f = finite_close s m e f k d h l
 
 -- ---- the contract, from the steps: 2^63 units are 2^11 of 2^-52
-pub promise : (x : Float) (r : Answer) → T (fits binary64 x) → r ≡ arctangent_of x → (r ≡ arctangent_of x) × ArctangentWithin 52 x r
-promise x r f e = subst (λ (a : Answer). (a ≡ arctangent_of x) × ArctangentWithin 52 x a) (sym e) (refl, within (2 ^ 11) 52 refl (lit≤ tt) x f)
+pub promise : (x : Float) (r : Result Answer Refusal) → T (fits binary64 x) → r ≡ arctangent_of x → (r ≡ arctangent_of x) × ArctangentWithin 52 x r
+promise x r f e = subst (λ (a : Result Answer Refusal). (a ≡ arctangent_of x) × ArctangentWithin 52 x a) (sym e) (refl, within (2 ^ 11) 52 refl (lit≤ tt) x f)

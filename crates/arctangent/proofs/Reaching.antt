@@ -1,4 +1,5 @@
 -- From what the code of the arc tangent tests and calls to its definitions. Assumes nothing.
+use Rattle.std.specs.Prelude.{Ok}
 use mathlib.Core.Path.{◌≡◌, refl, sym, ap, ap₂, ◌∙◌, subst}
 use mathlib.Core.Bool.{Bool, true, false, true≢false}
 use Prim.Native.Nat.{ℕ, zero, suc, ◌+◌, ◌-◌, ◌*◌, ◌/◌, ◌%◌, ◌^◌, ◌≤◌, ◌<◌}
@@ -230,16 +231,16 @@ below-quarter digits exponent h l = four (digits * 2 ^ exponent) (2 ^ 1072) (lt_
     four x M k = omega arith
 
 -- ---- `arctangent`
-pub answered : (x : Float) (is_finite negative : Bool) (digits exponent : ℕ) → PartsOf x is_finite negative digits exponent → is_finite ≡ true → (r : Float) → r ≡ arctangent_at negative (digits * 2 ^ exponent) (2 ^ 1074) → One r ≡ arctangent_of x
+pub answered : (x : Float) (is_finite negative : Bool) (digits exponent : ℕ) → PartsOf x is_finite negative digits exponent → is_finite ≡ true → (r : Float) → r ≡ arctangent_at negative (digits * 2 ^ exponent) (2 ^ 1074) → Ok (One r) ≡ arctangent_of x
 unfolding arctangent_of
 answered nan f s d k p h r e = absurd (p.decoded (sym p.kind ∙ h)).value
 answered (inf t) f s d k p h r e = absurd (p.decoded (sym p.kind ∙ h)).value
 answered (fin t m g) f s d k p h r e =
     let v = (p.decoded (sym p.kind ∙ h)).value in
-    ap One (e ∙ sym (at_same s (m * up g) (down g) (d * 2 ^ k) (2 ^ 1074) (down_pos g) (pow_pos 1074) v.1) ∙ ap (λ (b : Bool). arctangent_at b (m * up g) (down g)) (sym v.0))
+    ap (λ (v : Float). Ok (One v)) (e ∙ sym (at_same s (m * up g) (down g) (d * 2 ^ k) (2 ^ 1074) (down_pos g) (pow_pos 1074) v.1) ∙ ap (λ (b : Bool). arctangent_at b (m * up g) (down g)) (sym v.0))
 
-pub answered_infinite : (x : Float) (is_finite : Bool) → ne x x ≡ false → is_finite ≡ finite x → is_finite ≡ false → (r : Float) → r ≡ round binary64 (lt x +0) (right_sides.added - right_sides.taken) (2 ^ 63) → One r ≡ arctangent_of x
+pub answered_infinite : (x : Float) (is_finite : Bool) → ne x x ≡ false → is_finite ≡ finite x → is_finite ≡ false → (r : Float) → r ≡ round binary64 (lt x +0) (right_sides.added - right_sides.taken) (2 ^ 63) → Ok (One r) ≡ arctangent_of x
 unfolding arctangent_of ne eq lt of_bits
 answered_infinite nan f t k h r e = absurd (true≢false t)
-answered_infinite (inf s) f t k h r e = ap One e
+answered_infinite (inf s) f t k h r e = ap (λ (v : Float). Ok (One v)) e
 answered_infinite (fin s m g) f t k h r e = absurd (true≢false (sym k ∙ h))

@@ -1,10 +1,12 @@
 -- The steps of the arc tangent: docs/STEPS.md, "Arc tangent". Definitions only.
-use Rattle.std.specs.Prelude.{Bool, ℕ, ◌+◌, ◌-◌, ◌*◌, ◌/◌, ◌^◌, ltb, Float}
+use Rattle.std.specs.Prelude.{Bool, ℕ, ◌+◌, ◌-◌, ◌*◌, ◌/◌, ◌^◌, ltb, Float, Result, Ok, Err}
 use Rattle.std.specs.Float.{nan, inf, fin, binary64}
 use Rattle.std.specs.Float.Ieee.{up, down, round}
 use Rattle.laws.specs.Ladder.{when◌gives◌else◌}
 use Rattle.answer.specs.declared.Answer.{Answer}
-use Rattle.answer.specs.declared.Answer.TheVariants.{One, Refused}
+use Rattle.answer.specs.declared.Refusal.{Refusal}
+use Rattle.answer.specs.declared.Answer.TheVariants.{One}
+use Rattle.answer.specs.declared.Refusal.TheVariants.{NotANumber}
 use Rattle.arctangent.specs.Sums.{run_of}
 use Rattle.arctangent.specs.declared.sums.Sides.{Sides}
 
@@ -63,7 +65,7 @@ arctangent_at s p q =
     when ltb (4 * p) q gives round binary64 s (p * (f.added - f.taken)) (q * 2 ^ 63) else
     round binary64 s (z.added - z.taken) (2 ^ 63)
 
-unfoldable pub arctangent_of : Float → Answer
-arctangent_of nan = Refused 1
-arctangent_of (inf s) = One (round binary64 s (right_sides.added - right_sides.taken) (2 ^ 63))
-arctangent_of (fin s m e) = One (arctangent_at s (m * up e) (down e))
+unfoldable pub arctangent_of : Float → Result Answer Refusal
+arctangent_of nan = Err NotANumber
+arctangent_of (inf s) = Ok (One (round binary64 s (right_sides.added - right_sides.taken) (2 ^ 63)))
+arctangent_of (fin s m e) = Ok (One (arctangent_at s (m * up e) (down e)))

@@ -1,10 +1,11 @@
 -- The sum of the arc tangent as an exact fraction (02, [6]), and its bound. Definitions only.
-use Rattle.std.specs.Prelude.{◌≡◌, ℕ, ◌+◌, ◌-◌, ◌*◌, ◌^◌, ltb, Float}
+use Rattle.std.specs.Prelude.{◌≡◌, ℕ, ◌+◌, ◌-◌, ◌*◌, ◌^◌, ltb, Float, Result, Err}
 use Rattle.std.specs.Float.{nan, inf, fin}
 use Rattle.std.specs.Float.Ieee.{up, down}
 use Rattle.laws.specs.Ladder.{when◌gives◌else◌}
 use Rattle.answer.specs.declared.Answer.{Answer}
-use Rattle.answer.specs.declared.Answer.TheVariants.{Refused}
+use Rattle.answer.specs.declared.Refusal.{Refusal}
+use Rattle.answer.specs.declared.Refusal.TheVariants.{NotANumber}
 use Rattle.answer.specs.Answer.{OneThat}
 use Rattle.bounds.specs.Fractions.{Fraction, Difference, ◌over◌, ◌⊞◌}
 use Rattle.bounds.specs.Close.{Close}
@@ -53,7 +54,7 @@ allowed d p q =
     1 over 2 ^ d
 
 -- within that of the sum, whose powers are odd: for x < 0 it is said of -x and the negated answer; of ±∞ it is ±π / 2. NaN is refusal 1
-unfoldable pub ArctangentWithin : ℕ → Float → Answer → Type 0
-ArctangentWithin d nan r = r ≡ Refused 1
+unfoldable pub ArctangentWithin : ℕ → Float → Result Answer Refusal → Type 0
+ArctangentWithin d nan r = r ≡ Err NotANumber
 ArctangentWithin d (inf s) r = OneThat (Close (1 over 2 ^ d) (quarter and quarter) s) r
 ArctangentWithin d (fin s m e) r = OneThat (Close (allowed d (m * up e) (down e)) (arctangent (m * up e) (down e)) s) r

@@ -18,7 +18,7 @@ mod argument;
 mod quotient;
 mod sums;
 
-use answer::Answer;
+use answer::{Answer, Refusal};
 use argument::{RIGHT_ADDED, RIGHT_TAKEN, fixed, sides_of};
 use bits::{parts, product, rounded};
 use sums::{Sides, factor};
@@ -50,19 +50,19 @@ fn of_parts(negative: bool, digits: u64, exponent: u64) -> f64
 }
 
 // Within |x| 2^-52 of A(x) below 1/4, and within 2^-52 of the sum from there on; odd.
-pub fn arctangent(x: f64) -> Answer
+pub fn arctangent(x: f64) -> Result<Answer, Refusal>
     ensures { (result ≡ arctangent_of x) × ArctangentWithin 52 x result }
 {
     if x != x {
-        return Answer::Refused(1);
+        return Err(Refusal::NotANumber);
     }
     let p = parts(x);
     if p.finite {
-        return Answer::One(of_parts(p.negative, p.digits, p.exponent));
+        return Ok(Answer::One(of_parts(p.negative, p.digits, p.exponent)));
     }
     let right = Sides {
         added: RIGHT_ADDED,
         taken: RIGHT_TAKEN,
     };
-    Answer::One(difference(x < 0.0, right))
+    Ok(Answer::One(difference(x < 0.0, right)))
 }

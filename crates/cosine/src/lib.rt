@@ -5,15 +5,12 @@ ghost use Rattle.std.specs.Prelude.{◌≡◌};
 ghost use Rattle.angle.specs.Series.{CosineWithin, UpToOne};
 ghost use Rattle.angle.specs.Cosine.{cosine_of};
 
-use answer::Answer;
+use answer::{Answer, Refusal};
 
 // Within 2^-52 of 1 - x^2/2! + .. - x^42/42!, never above 1, and even.
-pub fn cosine(x: f64) -> Answer
+pub fn cosine(x: f64) -> Result<Answer, Refusal>
     ensures { (result ≡ cosine_of x) × CosineWithin 46 x result × CosineWithin 52 x result × UpToOne result }
 {
-    let a = angle::view(x);
-    if a.refusal > 0 {
-        return Answer::Refused(a.refusal);
-    }
-    Answer::One(angle::cosine_by(a.square))
+    let a = angle::view(x)?;
+    Ok(Answer::One(angle::cosine_by(a.square)))
 }

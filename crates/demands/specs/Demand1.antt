@@ -1,11 +1,13 @@
 -- DEMAND 1. Every function at every pattern, and every call on any bytes, has an answer or one of 01's numbers; a refusal reads as two zeros, NaN is never handed
 -- out, and a refused call changes no byte. `evaluate_of`, `blank_of`, `edit_of` and the others are what the public contracts cite. Assumes nothing.
-use Rattle.std.specs.Prelude.{◌≡◌, refl, Bool, true, false, cond, not, List, [], ◌∷◌, ℕ, ◌≤◌, ◌<◌, leb, ltb, eqb, length}
+use Rattle.std.specs.Prelude.{◌≡◌, refl, Bool, true, false, cond, not, List, [], ◌∷◌, ℕ, ◌≤◌, ◌<◌, leb, ltb, eqb, length, Result, Ok, Err}
 use Rattle.std.proofs.Common.{arith, ne_eqb}
 use Rattle.std.specs.Float.Ieee.{is_nan, of_bits}
 use Rattle.laws.specs.Arithmetic.{+0}
 use Rattle.answer.specs.declared.Answer.{Answer}
-use Rattle.answer.specs.declared.Answer.TheVariants.{One, Pair, Infinite, Refused}
+use Rattle.answer.specs.declared.Refusal.{Refusal}
+use Rattle.answer.specs.declared.Answer.TheVariants.{One, Pair, Infinite}
+use Rattle.answer.specs.declared.Refusal.TheVariants.{NoSuchFunction}
 use Rattle.answer.specs.Answer.{refusal_of, first_of, second_of}
 use Rattle.answer.specs.Numbers.{last}
 use Rattle.answer.specs.Sound.{Sound}
@@ -27,7 +29,7 @@ pub record Demand1 : Type 0 where
   -- one finite value, a pair, an infinity, or a numeric refusal
   pub answers : (f a b c : ℕ) → f ≤ last → Sound (evaluate_of f a b c)
   -- a number that is no function's has refusal 9
-  pub no_function : (f a b c : ℕ) → last < f → evaluate_of f a b c ≡ Refused 9
+  pub no_function : (f a b c : ℕ) → last < f → evaluate_of f a b c ≡ Err NoSuchFunction
   -- NaN is never handed out
   pub no_nan : (f a b c : ℕ) → f ≤ last → let z = evaluate_of f a b c in (is_nan (first_of z) ≡ false) × (is_nan (second_of z) ≡ false)
   -- a refusal reads as two zeros
@@ -50,19 +52,19 @@ pub record Demand1 : Type 0 where
 -- ---- why
 
 -- a refused answer reads as two zeros
-refused_zeros : (a : Answer) → 0 < refusal_of a → (first_of a ≡ +0) × (second_of a ≡ +0)
+refused_zeros : (a : Result Answer Refusal) → 0 < refusal_of a → (first_of a ≡ +0) × (second_of a ≡ +0)
 unfolding refusal_of first_of second_of
-refused_zeros (One x) h = absurd (let z : ⊥ = omega arith in z)
-refused_zeros (Pair x y) h = absurd (let z : ⊥ = omega arith in z)
-refused_zeros (Infinite s) h = absurd (let z : ⊥ = omega arith in z)
-refused_zeros (Refused n) h = (refl, refl)
+refused_zeros (Ok (One x)) h = absurd (let z : ⊥ = omega arith in z)
+refused_zeros (Ok (Pair x y)) h = absurd (let z : ⊥ = omega arith in z)
+refused_zeros (Ok (Infinite s)) h = absurd (let z : ⊥ = omega arith in z)
+refused_zeros (Err n) h = (refl, refl)
 
-second_never_nan : (a : Answer) → Sound a → is_nan (second_of a) ≡ false
+second_never_nan : (a : Result Answer Refusal) → Sound a → is_nan (second_of a) ≡ false
 unfolding Sound second_of is_nan of_bits
-second_never_nan (One x) s = refl
-second_never_nan (Pair x y) s = s.1.number
-second_never_nan (Infinite t) s = refl
-second_never_nan (Refused n) s = refl
+second_never_nan (Ok (One x)) s = refl
+second_never_nan (Ok (Pair x y)) s = s.1.number
+second_never_nan (Ok (Infinite t)) s = refl
+second_never_nan (Err n) s = refl
 
 blank_of_lem : (s : List ℕ) (r : ℕ) → OneOf (blank_refusal s r) (0 ∷ 11 ∷ 7 ∷ [])
 unfolding blank_refusal

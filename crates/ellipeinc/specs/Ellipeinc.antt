@@ -1,11 +1,13 @@
 -- ellipeinc (01, "ellipeinc, in this order", with 02, [7]); each step has the operations of ellipeinc.rs, in its order, and the rounds of the recipes that it asks (02, [3]). Definitions only.
-use Rattle.std.specs.Prelude.{◌+◌, Bool, true, cond, not, ◌||◌, ◌&&◌, Float}
+use Rattle.std.specs.Prelude.{◌+◌, Bool, true, cond, not, ◌||◌, ◌&&◌, Float, Result, Ok, Err}
 use Rattle.std.specs.Float.Ieee.{neg}
 use Rattle.laws.specs.Arithmetic.{◌⊕◌, ◌⊖◌, ◌⊗◌, ◌⊘◌, ◌<·◌, ◌≤·◌, ◌=·◌, ◌≠·◌, +0, +∞, -∞, π, ε, 1·0, 2·0, 3·0, float}
 use Rattle.laws.specs.Ladder.{when◌gives◌else◌}
 use Rattle.answer.specs.Answer.{value_of}
 use Rattle.answer.specs.declared.Answer.{Answer}
-use Rattle.answer.specs.declared.Answer.TheVariants.{One, Infinite, Refused}
+use Rattle.answer.specs.declared.Refusal.{Refusal}
+use Rattle.answer.specs.declared.Answer.TheVariants.{One, Infinite}
+use Rattle.answer.specs.declared.Refusal.TheVariants.{NotANumber, AboveOne, Beyond, Unmet}
 use Rattle.root.specs.Root.{root_of}
 use Rattle.whole.specs.Whole.{magnitude_of, round_of}
 use Rattle.angle.specs.Sine.{sine_of}
@@ -27,15 +29,15 @@ unfoldable pub sign_of : Float → Float
 sign_of φ = cond (φ <· +0) (neg 1·0) 1·0
 
 -- step 2
-unfoldable pub itself_of : Float → Answer
+unfoldable pub itself_of : Float → Result Answer Refusal
 itself_of φ =
-    when φ ≠· φ gives Refused 1 else
+    when φ ≠· φ gives Err NotANumber else
     handed_of φ
 
 -- step 5: φ·(2·E(m)/π), φ's sign put back last
-unfoldable pub far_of : Float → Float → Float → Answer
+unfoldable pub far_of : Float → Float → Float → Result Answer Refusal
 far_of sign size m =
-    when 1·0 <· m gives Refused 2 else
+    when 1·0 <· m gives Err AboveOne else
     handed_of (sign ⊗ (size ⊗ (2·0 ⊗ value_of (ellipe_of m) ⊘ π)))
 
 -- step 7: mm is the rounded |φ| / π
@@ -45,7 +47,7 @@ half_turns size = round_of (size ⊘ π)
 abbrev pub line_rest : Float → Float
 line_rest size = size ⊖ half_turns size ⊗ π
 
-unfoldable pub line_of : Float → Float → Answer
+unfoldable pub line_of : Float → Float → Result Answer Refusal
 line_of sign size = handed_of (sign ⊗ (2·0 ⊗ half_turns size ⊕ value_of (sine_of (line_rest size))))
 
 -- step 8: the angle stands for its own integral
@@ -90,10 +92,10 @@ unfoldable pub recipe_of : Float → Float → Float → Term
 recipe_of m s2 c2 = cond (m <· +0 || cancelling <· m) (below_of m (1·0 ⊘ s2) (c2 ⊘ s2)) (above_of m (1·0 ⊘ s2) (c2 ⊘ s2))
 
 -- the refusals that come with a period term, the term itself, and the sign
-unfoldable pub with_periods_of : Float → Float → Float → Bool → Float → Answer
+unfoldable pub with_periods_of : Float → Float → Float → Bool → Float → Result Answer Refusal
 with_periods_of sign m mm met v =
-    when mm ≠· +0 && 1·0 <· m gives Refused 2 else
-    when not met gives Refused 5 else
+    when mm ≠· +0 && 1·0 <· m gives Err AboveOne else
+    when not met gives Err Unmet else
     when mm ≠· +0 gives handed_of (sign ⊗ (v ⊕ mm ⊗ value_of (ellipe_of m))) else
     handed_of (sign ⊗ v)
 
@@ -102,7 +104,7 @@ by_recipe_of sign m f =
     let s = value_of (sine_of f.angle) in
     let c = value_of (cosine_of f.angle) in
     let e = recipe_of m (s ⊗ s) (c ⊗ c) in
-    when 1·0 ≤· m ⊗ (s ⊗ s) gives unasked_of (Refused 3) else
+    when 1·0 ≤· m ⊗ (s ⊗ s) gives unasked_of (Err Beyond) else
     record { answer = with_periods_of sign m f.mm e.met (f.s ⊗ e.value); rounds = e.rounds }
 
 unfoldable pub reduced_of : Float → Float → Float → Counted
@@ -121,13 +123,13 @@ on_size_of sign size m =
 -- steps 1 to 4, and 6 (02, [7]): only an infinite φ is infinite by itself, and m = -∞ makes every other φ so. The answer, and the rounds of all recipes asked for it
 unfoldable pub counted_of : Float → Float → Counted
 counted_of φ m =
-    when φ =· +0 gives unasked_of (One +0) else
+    when φ =· +0 gives unasked_of (Ok (One +0)) else
     when m =· +0 gives unasked_of (itself_of φ) else
-    when magnitude_of φ =· +∞ gives unasked_of (Infinite (φ <· +0)) else
-    when φ ≠· φ && 1·0 <· m gives unasked_of (Refused 2) else
-    when φ ≠· φ || m ≠· m gives unasked_of (Refused 1) else
-    when m =· -∞ gives unasked_of (Infinite (φ <· +0)) else
+    when magnitude_of φ =· +∞ gives unasked_of (Ok (Infinite (φ <· +0))) else
+    when φ ≠· φ && 1·0 <· m gives unasked_of (Err AboveOne) else
+    when φ ≠· φ || m ≠· m gives unasked_of (Err NotANumber) else
+    when m =· -∞ gives unasked_of (Ok (Infinite (φ <· +0))) else
     on_size_of (sign_of φ) (magnitude_of φ) m
 
-unfoldable pub ellipeinc_of : Float → Float → Answer
+unfoldable pub ellipeinc_of : Float → Float → Result Answer Refusal
 ellipeinc_of φ m = (counted_of φ m).answer

@@ -5,7 +5,7 @@
 ghost use Rattle.std.specs.Prelude.{◌≤◌, ◌≡◌};
 ghost use Rattle.ellipeinc.specs.Ellipeinc.{sign_of, itself_of, far_of, line_of, own_of, two_terms_from, two_terms_of, trusted_terms_of, below_of, above_of, recipe_of, with_periods_of, by_recipe_of, reduced_of, on_size_of, counted_of};
 
-use answer::{Amplitude, Answer, Counted, Parameter, Term, handed, infinity, unasked};
+use answer::{Amplitude, Answer, Counted, Parameter, Refusal, Term, handed, infinity, unasked};
 use carlson::{Outcome, trusted};
 use incomplete::{FAR_OUT, Fold, PI, ROOT_OF_SCALE, SCALE, folded, large, on_circle, sine};
 use legendre::complete_e;
@@ -20,26 +20,26 @@ fn sign(phi: f64) -> f64
     if phi < 0.0 { -1.0 } else { 1.0 }
 }
 
-fn itself(phi: f64) -> Answer
+fn itself(phi: f64) -> Result<Answer, Refusal>
     ensures { result ≡ itself_of phi }
 {
     if phi != phi {
-        return Answer::Refused(1);
+        return Err(Refusal::NotANumber);
     }
     handed(phi)
 }
 
-fn far(sign: f64, size: f64, m: f64) -> Answer
+fn far(sign: f64, size: f64, m: f64) -> Result<Answer, Refusal>
     ensures { result ≡ far_of sign size m }
 {
     if m > 1.0 {
-        return Answer::Refused(2);
+        return Err(Refusal::AboveOne);
     }
     let e = complete_e(m);
     handed(sign * (size * (2.0 * e / PI)))
 }
 
-fn line(sign: f64, size: f64) -> Answer
+fn line(sign: f64, size: f64) -> Result<Answer, Refusal>
     ensures { result ≡ line_of sign size }
 {
     let mm = whole::round(size / PI);
@@ -118,14 +118,14 @@ fn recipe(m: f64, s2: f64, c2: f64) -> Term
     above(m, 1.0 / s2, c2 / s2)
 }
 
-fn with_periods(sign: f64, m: f64, mm: f64, met: bool, v: f64) -> Answer
+fn with_periods(sign: f64, m: f64, mm: f64, met: bool, v: f64) -> Result<Answer, Refusal>
     ensures { result ≡ with_periods_of sign m mm met v }
 {
     if (mm != 0.0) & (m > 1.0) {
-        return Answer::Refused(2);
+        return Err(Refusal::AboveOne);
     }
     if !met {
-        return Answer::Refused(5);
+        return Err(Refusal::Unmet);
     }
     if mm != 0.0 {
         let e = complete_e(m);
@@ -141,7 +141,7 @@ fn by_recipe(sign: f64, m: f64, f: Fold) -> Counted
     let s = p.sine;
     let c = p.cosine;
     if m * (s * s) >= 1.0 {
-        return unasked(Answer::Refused(3));
+        return unasked(Err(Refusal::Beyond));
     }
     let e = recipe(m, s * s, c * c);
     Counted {
@@ -181,24 +181,24 @@ pub fn ellipeinc(phi: Amplitude, m: Parameter) -> Counted
     let m = m.0;
     let size = whole::magnitude(phi);
     if phi == 0.0 {
-        return unasked(Answer::One(0.0));
+        return unasked(Ok(Answer::One(0.0)));
     }
     if m == 0.0 {
         return unasked(itself(phi));
     }
     let top = infinity(false);
     if size == top {
-        return unasked(Answer::Infinite(phi < 0.0));
+        return unasked(Ok(Answer::Infinite(phi < 0.0)));
     }
     if (phi != phi) & (m > 1.0) {
-        return unasked(Answer::Refused(2));
+        return unasked(Err(Refusal::AboveOne));
     }
     if (phi != phi) | (m != m) {
-        return unasked(Answer::Refused(1));
+        return unasked(Err(Refusal::NotANumber));
     }
     let bottom = infinity(true);
     if m == bottom {
-        return unasked(Answer::Infinite(phi < 0.0));
+        return unasked(Ok(Answer::Infinite(phi < 0.0)));
     }
     let sign = sign(phi);
     on_size(sign, size, m)

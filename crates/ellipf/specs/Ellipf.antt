@@ -1,12 +1,14 @@
 -- ellipf (02, [1]): the operations of ellipf.rs, in its order, and the rounds of the recipe that it asks ([3]). Definitions only.
-use Rattle.std.specs.Prelude.{Bool, cond, not, ◌||◌, ◌&&◌, Float}
+use Rattle.std.specs.Prelude.{Bool, cond, not, ◌||◌, ◌&&◌, Float, Result, Ok, Err}
 use Rattle.std.specs.Float.{nan, inf, fin}
 use Rattle.std.specs.Float.Ieee.{neg}
 use Rattle.laws.specs.Arithmetic.{◌⊕◌, ◌⊖◌, ◌⊗◌, ◌⊘◌, ◌<·◌, ◌≤·◌, ◌=·◌, ◌≠·◌, dec, +0, +∞, -∞, π/2, 1·0}
 use Rattle.laws.specs.Ladder.{when◌gives◌else◌}
 use Rattle.answer.specs.Answer.{value_of}
 use Rattle.answer.specs.declared.Answer.{Answer}
-use Rattle.answer.specs.declared.Answer.TheVariants.{One, Refused}
+use Rattle.answer.specs.declared.Refusal.{Refusal}
+use Rattle.answer.specs.declared.Answer.TheVariants.{One}
+use Rattle.answer.specs.declared.Refusal.TheVariants.{NotANumber, Beyond}
 use Rattle.whole.specs.Whole.{magnitude_of}
 use Rattle.angle.specs.Sine.{sine_of}
 use Rattle.angle.specs.Cosine.{cosine_of}
@@ -31,7 +33,7 @@ pole_of φ m =
     1·0 ≤· m && (π/2 ≤· magnitude_of φ || 1·0 ≤· m ⊗ (s ⊗ s))
 
 -- |φ| > 2^52
-unfoldable pub far_of : Float → Float → Float → Answer
+unfoldable pub far_of : Float → Float → Float → Result Answer Refusal
 far_of sign size m =
     when size =· +∞ gives handed_of (sign ⊗ +∞) else
     handed_of (sign ⊗ size ⊗ (k_unchecked_of m ⊘ π/2))
@@ -58,13 +60,13 @@ recipe_of s m sine cosine =
     record { value = s ⊗ plain.value; met = plain.met; rounds = plain.rounds }
 
 -- F(φ, -∞) = 0 where there is no finite answer; else 5, and then 6
-unfoldable pub closed_of : Float → Bool → Float → Answer
+unfoldable pub closed_of : Float → Bool → Float → Result Answer Refusal
 closed_of m met v =
-    when m =· -∞ && (not met || (v ≠· v || infinite_of v)) gives One +0 else
+    when m =· -∞ && (not met || (v ≠· v || infinite_of v)) gives Ok (One +0) else
     settled_of met v
 
 -- the period term, and the sign
-unfoldable pub with_periods_of : Float → Float → Float → Term → Answer
+unfoldable pub with_periods_of : Float → Float → Float → Term → Result Answer Refusal
 with_periods_of sign m mm t =
     when mm ≠· +0 gives closed_of m t.met (sign ⊗ (t.value ⊕ mm ⊗ k_unchecked_of m)) else
     closed_of m t.met (sign ⊗ t.value)
@@ -75,17 +77,17 @@ reduced_of sign size m =
     let sine = value_of (sine_of f.angle) in
     let cosine = value_of (cosine_of f.angle) in
     let t = recipe_of f.s m sine cosine in
-    when 1·0 ≤· m ⊗ (sine ⊗ sine) gives unasked_of (Refused 3) else
+    when 1·0 ≤· m ⊗ (sine ⊗ sine) gives unasked_of (Err Beyond) else
     record { answer = with_periods_of sign m f.mm t; rounds = t.rounds }
 
 -- the answer, and the rounds of the recipe asked for it
 unfoldable pub counted_of : Float → Float → Counted
 counted_of φ m =
-    when φ ≠· φ || m ≠· m gives unasked_of (Refused 1) else
+    when φ ≠· φ || m ≠· m gives unasked_of (Err NotANumber) else
     when m =· +0 gives unasked_of (handed_of φ) else
-    when pole_of φ m gives unasked_of (Refused 3) else
+    when pole_of φ m gives unasked_of (Err Beyond) else
     when far_out <· magnitude_of φ gives unasked_of (far_of (signum_of φ) (magnitude_of φ) m) else
     reduced_of (signum_of φ) (magnitude_of φ) m
 
-unfoldable pub ellipf_of : Float → Float → Answer
+unfoldable pub ellipf_of : Float → Float → Result Answer Refusal
 ellipf_of φ m = (counted_of φ m).answer

@@ -6,7 +6,8 @@ ghost use Rattle.std.specs.Prelude.{◌≡◌};
 ghost use Rattle.ellipf.specs.Ellipf.{signum_of, pole_of, far_of, middle_of, recipe_of, closed_of, with_periods_of, reduced_of, counted_of};
 
 use answer::{
-    Amplitude, Answer, Counted, Parameter, Term, handed, infinite, infinity, settled, unasked,
+    Amplitude, Answer, Counted, Parameter, Refusal, Term, handed, infinite, infinity, settled,
+    unasked,
 };
 use incomplete::{FAR_OUT, HALF_PI, ROOT_OF_SCALE, SCALE, folded, large, on_circle, sine};
 use rf::rf;
@@ -36,7 +37,7 @@ fn hides_pole(phi: f64, m: f64) -> bool
     m * (s * s) >= 1.0
 }
 
-fn far(sign: f64, size: f64, m: f64) -> Answer
+fn far(sign: f64, size: f64, m: f64) -> Result<Answer, Refusal>
     ensures { result ≡ far_of sign size m }
 {
     let top = infinity(false);
@@ -90,18 +91,18 @@ fn recipe(s: f64, m: f64, sine: f64, cosine: f64) -> Term
     }
 }
 
-fn closed(m: f64, met: bool, v: f64) -> Answer
+fn closed(m: f64, met: bool, v: f64) -> Result<Answer, Refusal>
     ensures { result ≡ closed_of m met v }
 {
     let lost = !met | ((v != v) | infinite(v));
     let bottom = infinity(true);
     if (m == bottom) & lost {
-        return Answer::One(0.0);
+        return Ok(Answer::One(0.0));
     }
     settled(met, v)
 }
 
-fn with_periods(sign: f64, m: f64, mm: f64, t: Term) -> Answer
+fn with_periods(sign: f64, m: f64, mm: f64, t: Term) -> Result<Answer, Refusal>
     ensures { result ≡ with_periods_of sign m mm t }
 {
     if mm != 0.0 {
@@ -118,7 +119,7 @@ fn reduced(sign: f64, size: f64, m: f64) -> Counted
     let p = on_circle(f.angle);
     let s = p.sine;
     if m * (s * s) >= 1.0 {
-        return unasked(Answer::Refused(3));
+        return unasked(Err(Refusal::Beyond));
     }
     let t = recipe(f.s, m, s, p.cosine);
     Counted {
@@ -134,13 +135,13 @@ pub fn ellipf(phi: Amplitude, m: Parameter) -> Counted
     let phi = phi.0;
     let m = m.0;
     if (phi != phi) | (m != m) {
-        return unasked(Answer::Refused(1));
+        return unasked(Err(Refusal::NotANumber));
     }
     if m == 0.0 {
         return unasked(handed(phi));
     }
     if hides_pole(phi, m) {
-        return unasked(Answer::Refused(3));
+        return unasked(Err(Refusal::Beyond));
     }
     let sign = signum(phi);
     let size = whole::magnitude(phi);

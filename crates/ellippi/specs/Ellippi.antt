@@ -1,11 +1,13 @@
 -- ellippi (01, "ellippi, in this order"); each arm has the operations of ellippi.rs, in its order, and the rounds of the recipes that it asks (02, [3]). Definitions only.
-use Rattle.std.specs.Prelude.{◌+◌, true, cond, ◌||◌, ◌&&◌, Float}
+use Rattle.std.specs.Prelude.{◌+◌, true, cond, ◌||◌, ◌&&◌, Float, Result, Ok, Err}
 use Rattle.std.specs.Float.Ieee.{neg}
 use Rattle.laws.specs.Arithmetic.{◌⊕◌, ◌⊖◌, ◌⊗◌, ◌⊘◌, ◌<·◌, ◌=·◌, ◌≠·◌, float, +0, -∞, π/2, 1·0, 3·0}
 use Rattle.laws.specs.Ladder.{when◌gives◌else◌}
 use Rattle.answer.specs.Answer.{value_of}
 use Rattle.answer.specs.declared.Answer.{Answer}
-use Rattle.answer.specs.declared.Answer.TheVariants.{One, Infinite, Refused}
+use Rattle.answer.specs.declared.Refusal.{Refusal}
+use Rattle.answer.specs.declared.Answer.TheVariants.{One, Infinite}
+use Rattle.answer.specs.declared.Refusal.TheVariants.{NotANumber, AboveOne, CharacteristicOne}
 use Rattle.legendre.specs.Ellipk.{ellipk_of}
 use Rattle.legendre.specs.Ellipe.{ellipe_of}
 use Rattle.rf.specs.Rf.{rf_of}
@@ -80,12 +82,12 @@ arms_of n m =
 unfoldable pub counted_of : Float → Float → Counted
 counted_of n m =
     let t = arms_of n m in
-    when n ≠· n || m ≠· m gives unasked_of (Refused 1) else
-    when 1·0 <· m gives unasked_of (Refused 2) else
-    when n =· 1·0 gives unasked_of (Refused 4) else
-    when m =· 1·0 gives unasked_of (Infinite (1·0 ⊖ n <· +0)) else
-    when n =· -∞ || m =· -∞ gives unasked_of (One +0) else
+    when n ≠· n || m ≠· m gives unasked_of (Err NotANumber) else
+    when 1·0 <· m gives unasked_of (Err AboveOne) else
+    when n =· 1·0 gives unasked_of (Err CharacteristicOne) else
+    when m =· 1·0 gives unasked_of (Ok (Infinite (1·0 ⊖ n <· +0))) else
+    when n =· -∞ || m =· -∞ gives unasked_of (Ok (One +0)) else
     record { answer = settled_of t.met t.value; rounds = t.rounds }
 
-unfoldable pub ellippi_of : Float → Float → Answer
+unfoldable pub ellippi_of : Float → Float → Result Answer Refusal
 ellippi_of n m = (counted_of n m).answer

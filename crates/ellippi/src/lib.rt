@@ -5,7 +5,9 @@
 ghost use Rattle.std.specs.Prelude.{◌≡◌};
 ghost use Rattle.ellippi.specs.Ellippi.{plain_term, from_rest_of, principal_of, weight_of, both_below_of, first_below_of, first_zero_of, diagonal_of, arms_of, counted_of};
 
-use answer::{Answer, Characteristic, Counted, Parameter, Term, infinity, settled, unasked};
+use answer::{
+    Answer, Characteristic, Counted, Parameter, Refusal, Term, infinity, settled, unasked,
+};
 use incomplete::HALF_PI;
 use legendre::{complete_e, complete_k};
 use rj::{rj, with_rf};
@@ -134,20 +136,20 @@ pub fn ellippi(n: Characteristic, m: Parameter) -> Counted
     let n = n.0;
     let m = m.0;
     if (n != n) | (m != m) {
-        return unasked(Answer::Refused(1));
+        return unasked(Err(Refusal::NotANumber));
     }
     if m > 1.0 {
-        return unasked(Answer::Refused(2));
+        return unasked(Err(Refusal::AboveOne));
     }
     if n == 1.0 {
-        return unasked(Answer::Refused(4));
+        return unasked(Err(Refusal::CharacteristicOne));
     }
     if m == 1.0 {
-        return unasked(Answer::Infinite(1.0 - n < 0.0));
+        return unasked(Ok(Answer::Infinite(1.0 - n < 0.0)));
     }
     let below = infinity(true);
     if (n == below) | (m == below) {
-        return unasked(Answer::One(0.0));
+        return unasked(Ok(Answer::One(0.0)));
     }
     let t = arms(n, m);
     Counted {

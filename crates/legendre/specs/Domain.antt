@@ -1,17 +1,18 @@
 -- The order in which each of the three functions decides. Definitions only.
-use Rattle.std.specs.Prelude.{ℕ, ltb, Float}
+use Rattle.std.specs.Prelude.{ℕ, ltb, Float, Result, Err}
 use Rattle.laws.specs.Arithmetic.{◌⊖◌, ◌<·◌, ◌=·◌, ◌≠·◌, +0, -∞, 1·0}
 use Rattle.laws.specs.Ladder.{when◌gives◌else◌}
 use Rattle.root.specs.Root.{root_of}
 use Rattle.answer.specs.declared.Answer.{Answer}
-use Rattle.answer.specs.declared.Answer.TheVariants.{Refused}
+use Rattle.answer.specs.declared.Refusal.{Refusal}
+use Rattle.answer.specs.declared.Refusal.TheVariants.{NotANumber, AboveOne}
 use Rattle.pieces.specs.Piece.{piece_of, centre_of}
 
 -- the answers at 1, at -∞, for finite m < 0 and for 0 ≤ m < 1
-unfoldable pub by_domain : Float → Answer → Answer → Answer → Answer → Answer
+unfoldable pub by_domain : Float → Result Answer Refusal → Result Answer Refusal → Result Answer Refusal → Result Answer Refusal → Result Answer Refusal
 by_domain m one minusInfinity negative belowOne =
-    when m ≠· m gives Refused 1 else
-    when 1·0 <· m gives Refused 2 else
+    when m ≠· m gives Err NotANumber else
+    when 1·0 <· m gives Err AboveOne else
     when m =· 1·0 gives one else
     when m =· -∞ gives minusInfinity else
     when m <· +0 gives negative else

@@ -1,5 +1,5 @@
 -- ellipe.rs: E(m), operation by operation. Definitions only.
-use Rattle.std.specs.Prelude.{Bool, false, ℕ, Float}
+use Rattle.std.specs.Prelude.{Bool, false, ℕ, Float, Result, Ok}
 use Rattle.std.specs.Float.Ieee.{neg}
 use Rattle.laws.specs.Arithmetic.{◌⊕◌, ◌⊖◌, ◌⊗◌, ◌⊘◌, ◌≤·◌, float, dec, ½, 1·0, 2·0, 4·0, π, ε}
 use Rattle.laws.specs.Ladder.{when◌gives◌else◌}
@@ -7,6 +7,7 @@ use Rattle.root.specs.Root.{root_of}
 use Rattle.fused.specs.Fused.{fused_of}
 use Rattle.answer.specs.Answer.{value_of}
 use Rattle.answer.specs.declared.Answer.{Answer}
+use Rattle.answer.specs.declared.Refusal.{Refusal}
 use Rattle.answer.specs.declared.Answer.TheVariants.{One, Infinite}
 use Rattle.logarithm.specs.Logarithm.{logarithm_of}
 use Rattle.legendre.specs.Domain.{by_domain, below_one_of}
@@ -75,9 +76,9 @@ unfoldable pub e_negative_of : ℕ → Float → Float → Float
 e_negative_of rounds c m1 = c ⊗ (when dec 9 1 ≤· m1 gives e_mean_of rounds (1·0 ⊘ c) else e_below_one_of rounds m1)
 
 -- E(1) = 1, E(-∞) = ∞; with a bound on the rounds of the mean. The file's factor c is 1 for m ≥ 0, which changes nothing (`one-times`).
-unfoldable pub ellipe_within : ℕ → Float → Answer
-ellipe_within rounds m = by_domain m (One 1·0) (Infinite false) (One (e_negative_of rounds (root_of (1·0 ⊖ m)) (m ⊘ (m ⊖ 1·0)))) (One (e_below_one_of rounds m))
+unfoldable pub ellipe_within : ℕ → Float → Result Answer Refusal
+ellipe_within rounds m = by_domain m (Ok (One 1·0)) (Ok (Infinite false)) (Ok (One (e_negative_of rounds (root_of (1·0 ⊖ m)) (m ⊘ (m ⊖ 1·0))))) (Ok (One (e_below_one_of rounds m)))
 
 -- the file has no bound, and none shows: `ellipe_ends` (identities, Ends) has the same answer for every bound from 8 on
-unfoldable pub ellipe_of : Float → Answer
+unfoldable pub ellipe_of : Float → Result Answer Refusal
 ellipe_of m = ellipe_within 32 m

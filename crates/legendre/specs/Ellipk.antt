@@ -1,8 +1,9 @@
 -- ellipk.rs: K(m), operation by operation. Definitions only.
-use Rattle.std.specs.Prelude.{Bool, false, Float}
+use Rattle.std.specs.Prelude.{Bool, false, Float, Result, Ok}
 use Rattle.laws.specs.Arithmetic.{◌⊕◌, ◌⊖◌, ◌⊗◌, ◌⊘◌, dec, +0, 1·0, 4·0, π}
 use Rattle.root.specs.Root.{root_of}
 use Rattle.answer.specs.declared.Answer.{Answer}
+use Rattle.answer.specs.declared.Refusal.{Refusal}
 use Rattle.answer.specs.declared.Answer.TheVariants.{One, Infinite}
 use Rattle.legendre.specs.Domain.{by_domain, below_one_of}
 use Rattle.legendre.specs.Mean.{arithmetic_of, geometric_of, goes_on_of, iterated}
@@ -37,8 +38,8 @@ unfoldable pub k_below_one_of : Float → Float
 k_below_one_of m = below_one_of k_piece_of k_mean_of m
 
 -- K(1) = ∞, K(-∞) = 0; negative m always by the mean
-unfoldable pub ellipk_of : Float → Answer
-ellipk_of m = by_domain m (Infinite false) (One +0) (One (k_mean_of (root_of (1·0 ⊖ m)))) (One (k_below_one_of m))
+unfoldable pub ellipk_of : Float → Result Answer Refusal
+ellipk_of m = by_domain m (Ok (Infinite false)) (Ok (One +0)) (Ok (One (k_mean_of (root_of (1·0 ⊖ m))))) (Ok (One (k_below_one_of m)))
 
 -- the file's `ellipk_precise_unchecked`: the mean for any m
 unfoldable pub k_unchecked_of : Float → Float

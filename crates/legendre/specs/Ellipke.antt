@@ -1,9 +1,10 @@
 -- ellipke.rs: K(m) and E(m) together, operation by operation (01, "ellipke"). Definitions only.
-use Rattle.std.specs.Prelude.{ℕ, Float}
+use Rattle.std.specs.Prelude.{ℕ, Float, Result, Ok}
 use Rattle.laws.specs.Arithmetic.{◌⊖◌, ◌⊗◌, ◌⊘◌, ◌≤·◌, dec, +0, +∞, 1·0}
 use Rattle.laws.specs.Ladder.{when◌gives◌else◌}
 use Rattle.root.specs.Root.{root_of}
 use Rattle.answer.specs.declared.Answer.{Answer}
+use Rattle.answer.specs.declared.Refusal.{Refusal}
 use Rattle.answer.specs.declared.Answer.TheVariants.{Pair}
 use Rattle.legendre.specs.Domain.{by_domain, below_one_of}
 use Rattle.pieces.specs.Piece.{k_piece_of, e_piece_of}
@@ -30,8 +31,8 @@ scaled_of c b = record { k = b.k ⊘ c; e = c ⊗ b.e }
 unfoldable pub both_negative_of : Float → Float → Both
 both_negative_of c m1 = scaled_of c (when dec 9 1 ≤· m1 gives both_mean_of (1·0 ⊘ c) else both_below_one_of m1)
 
-unfoldable pub pair_of : Both → Answer
-pair_of b = Pair b.k b.e
+unfoldable pub pair_of : Both → Result Answer Refusal
+pair_of b = Ok (Pair b.k b.e)
 
-unfoldable pub ellipke_of : Float → Answer
-ellipke_of m = by_domain m (Pair +∞ 1·0) (Pair +0 +∞) (pair_of (both_negative_of (root_of (1·0 ⊖ m)) (m ⊘ (m ⊖ 1·0)))) (pair_of (both_below_one_of m))
+unfoldable pub ellipke_of : Float → Result Answer Refusal
+ellipke_of m = by_domain m (Ok (Pair +∞ 1·0)) (Ok (Pair +0 +∞)) (pair_of (both_negative_of (root_of (1·0 ⊖ m)) (m ⊘ (m ⊖ 1·0)))) (pair_of (both_below_one_of m))

@@ -7,7 +7,7 @@ ghost use Rattle.legendre.specs.Ellipke.{both_mean_of, both_below_one_of, scaled
 use crate::ROOT_EPSILON;
 use crate::e::{e_from, last_sums, near_one};
 use crate::k::k_from;
-use answer::Answer;
+use answer::{Answer, Refusal};
 use pieces::{centre, e_piece, k_piece, piece};
 
 #[derive(Clone, Copy)]
@@ -67,8 +67,8 @@ pub(crate) fn both_negative(m: f64) -> Both
     scaled(root::root(1.0 - m), b)
 }
 
-pub(crate) fn pair(b: Both) -> Answer
+pub(crate) fn pair(b: Both) -> Result<Answer, Refusal>
     ensures { result ≡ pair_of b }
 {
-    Answer::Pair(b.k, b.e)
+    Ok(Answer::Pair(b.k, b.e))
 }

@@ -11,7 +11,7 @@ ghost use Rattle.legendre.specs.Ellipke.{ellipke_of};
 use crate::e::{e_below_one, e_negative};
 use crate::k::{k_below_one, k_mean};
 use crate::ke::{both_below_one, both_negative, pair};
-use answer::{Answer, Parameter};
+use answer::{Answer, Parameter, Refusal};
 
 mod e;
 mod k;
@@ -25,32 +25,27 @@ const EPSILON: f64 = 2.2204460492503131e-16;
 // 2^-26, the root of EPSILON, exactly
 const ROOT_EPSILON: f64 = 1.490116119384765625e-8;
 
-// by their patterns
-const INFINITY: u64 = 0x7ff0_0000_0000_0000;
-
-const MINUS_INFINITY: u64 = 0xfff0_0000_0000_0000;
-
 // K(m), DLMF 19.2.8: K(1) = ∞, K(-∞) = 0.
-pub fn ellipk(m: Parameter) -> Answer
+pub fn ellipk(m: Parameter) -> Result<Answer, Refusal>
     ensures { result ≡ ellipk_of m.0 }
 {
     let m = m.0;
     if m != m {
-        return Answer::Refused(1);
+        return Err(Refusal::NotANumber);
     }
     if m > 1.0 {
-        return Answer::Refused(2);
+        return Err(Refusal::AboveOne);
     }
     if m == 1.0 {
-        return Answer::Infinite(false);
+        return Ok(Answer::Infinite(false));
     }
-    if m == f64::from_bits(MINUS_INFINITY) {
-        return Answer::One(0.0);
+    if m == f64::NEG_INFINITY {
+        return Ok(Answer::One(0.0));
     }
     if m < 0.0 {
-        return Answer::One(k_mean(root::root(1.0 - m)));
+        return Ok(Answer::One(k_mean(root::root(1.0 - m))));
     }
-    Answer::One(k_below_one(m))
+    Ok(Answer::One(k_below_one(m)))
 }
 
 // `ellipk_precise_unchecked` of ellipk.rs, as ellipf.rs calls it: the mean for any m, and no test. NaN for m > 1 and at -∞.
@@ -61,44 +56,44 @@ pub fn k_unchecked(m: Parameter) -> f64
 }
 
 // E(m), DLMF 19.2.8: E(1) = 1, E(-∞) = ∞.
-pub fn ellipe(m: Parameter) -> Answer
+pub fn ellipe(m: Parameter) -> Result<Answer, Refusal>
     ensures { result ≡ ellipe_of m.0 }
 {
     let m = m.0;
     if m != m {
-        return Answer::Refused(1);
+        return Err(Refusal::NotANumber);
     }
     if m > 1.0 {
-        return Answer::Refused(2);
+        return Err(Refusal::AboveOne);
     }
     if m == 1.0 {
-        return Answer::One(1.0);
+        return Ok(Answer::One(1.0));
     }
-    if m == f64::from_bits(MINUS_INFINITY) {
-        return Answer::Infinite(false);
+    if m == f64::NEG_INFINITY {
+        return Ok(Answer::Infinite(false));
     }
     if m < 0.0 {
-        return Answer::One(e_negative(m));
+        return Ok(Answer::One(e_negative(m)));
     }
-    Answer::One(e_below_one(m))
+    Ok(Answer::One(e_below_one(m)))
 }
 
 // K(m) and E(m) together, a Pair always: (∞, 1) at 1, (0, ∞) at -∞. Its bits are not those of the two functions alone.
-pub fn ellipke(m: Parameter) -> Answer
+pub fn ellipke(m: Parameter) -> Result<Answer, Refusal>
     ensures { result ≡ ellipke_of m.0 }
 {
     let m = m.0;
     if m != m {
-        return Answer::Refused(1);
+        return Err(Refusal::NotANumber);
     }
     if m > 1.0 {
-        return Answer::Refused(2);
+        return Err(Refusal::AboveOne);
     }
     if m == 1.0 {
-        return Answer::Pair(f64::from_bits(INFINITY), 1.0);
+        return Ok(Answer::Pair(f64::INFINITY, 1.0));
     }
-    if m == f64::from_bits(MINUS_INFINITY) {
-        return Answer::Pair(0.0, f64::from_bits(INFINITY));
+    if m == f64::NEG_INFINITY {
+        return Ok(Answer::Pair(0.0, f64::INFINITY));
     }
     if m < 0.0 {
         return pair(both_negative(m));

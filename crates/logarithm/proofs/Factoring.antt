@@ -1,4 +1,5 @@
 -- From what the code of the logarithm tests and calls to its definition. Assumes nothing.
+use Rattle.std.specs.Prelude.{Ok, Err}
 use mathlib.Core.Path.{◌≡◌, refl, sym, ap, ap₂, ◌∙◌, subst}
 use mathlib.Core.Bool.{Bool, true, false, not, cond, ◌||◌, true≢false}
 use Prim.Native.Nat.{ℕ, zero, suc, ◌+◌, ◌-◌, ◌*◌, ◌/◌, ◌%◌, ◌^◌, ◌≤◌, ◌<◌}
@@ -17,7 +18,8 @@ use lib.Ieee.Scale.{round_same}
 use Rattle.laws.specs.laws.Digits.{leading, zeros-lt, zeros-ge, moved}
 use Rattle.bits.specs.Parts.{Decoded, PartsOf}
 use Rattle.bits.specs.Rounded.{rounded_of}
-use Rattle.answer.specs.declared.Answer.TheVariants.{One, Refused}
+use Rattle.answer.specs.declared.Answer.TheVariants.{One}
+use Rattle.answer.specs.declared.Refusal.TheVariants.{OutOfRange}
 use Rattle.logarithm.specs.Series.{units_of, places}
 use Rattle.bounds.specs.Close.{distance_of}
 use Rattle.logarithm.specs.Logarithm.{odds_of, part_of, third, logarithm_at, logarithm_of, Factored}
@@ -274,13 +276,13 @@ module _ (x : Float) (is_finite negative : Bool) (digits exponent : ℕ) (p : Pa
           absurd (clash (suc m * up e * 2 ^ 1074) (0 * 2 ^ exponent * down e) (mul-pos (mul-pos (zero-lt-suc m) (up_pos e)) (pow_pos 1074)) (ap (λ (z : ℕ). z * down e) (zero-mul (2 ^ exponent)) ∙ zero-mul (down e)) h)
 
 -- the code's test, and what the definition asks
-pub refused : (x : Float) (is_finite negative : Bool) (digits exponent : ℕ) → PartsOf x is_finite negative digits exponent → ne x x ≡ false → (not is_finite || negative || eqb digits 0) ≡ true → Refused 12 ≡ logarithm_of x
+pub refused : (x : Float) (is_finite negative : Bool) (digits exponent : ℕ) → PartsOf x is_finite negative digits exponent → ne x x ≡ false → (not is_finite || negative || eqb digits 0) ≡ true → Err OutOfRange ≡ logarithm_of x
 unfolding logarithm_of ne eq
 refused nan f s d k p n h = absurd (true≢false n)
 refused (inf t) f s d k p n h = refl
 refused (fin t m e) f s d k p n h =
     let v = (p.decoded refl).value in
-    ap (λ (b : Bool). cond b (Refused 12) (One (logarithm_at (units_of (fin t m e))))) (sym (ap₂ (λ (a b : Bool). a || b) v.0 (zero_same (fin t m e) f s d k p t m e v) ∙ ap (λ (a : Bool). not a || s || eqb d 0) (sym p.kind) ∙ h))
+    ap (λ (b : Bool). cond b (Err OutOfRange) (Ok (One (logarithm_at (units_of (fin t m e)))))) (sym (ap₂ (λ (a b : Bool). a || b) v.0 (zero_same (fin t m e) f s d k p t m e v) ∙ ap (λ (a : Bool). not a || s || eqb d 0) (sym p.kind) ∙ h))
 
 module _ (x : Float) (is_finite negative : Bool) (digits exponent : ℕ) (p : PartsOf x is_finite negative digits exponent) (h : (not is_finite || negative || eqb digits 0) ≡ false) where
   finite_is : is_finite ≡ true
@@ -305,11 +307,11 @@ module _ (x : Float) (is_finite negative : Bool) (digits exponent : ℕ) (p : Pa
           last false h = true≢false h
 
 pub answered : (x : Float) (is_finite negative : Bool) (digits exponent : ℕ) (p : PartsOf x is_finite negative digits exponent) → (not is_finite || negative || eqb digits 0) ≡ false → (r : Float)
-    → r ≡ logarithm_at (digits * 2 ^ exponent) → One r ≡ logarithm_of x
+    → r ≡ logarithm_at (digits * 2 ^ exponent) → Ok (One r) ≡ logarithm_of x
 unfolding logarithm_of
 answered nan f s d k p h r e = absurd (decoded nan f s d k p h).value
 answered (inf t) f s d k p h r e = absurd (decoded (inf t) f s d k p h).value
 answered (fin t m g) f s d k p h r e =
     let v = (decoded (fin t m g) f s d k p h).value in
-    ap One (e ∙ ap logarithm_at (sym (units_are (fin t m g) f s d k p t m g v)))
-    ∙ ap (λ (b : Bool). cond b (Refused 12) (One (logarithm_at (units_of (fin t m g))))) (sym (ap₂ (λ (a b : Bool). a || b) v.0 (zero_same (fin t m g) f s d k p t m g v) ∙ ap (λ (a : Bool). not a || s || eqb d 0) (sym p.kind) ∙ h))
+    ap (λ (v : Float). Ok (One v)) (e ∙ ap logarithm_at (sym (units_are (fin t m g) f s d k p t m g v)))
+    ∙ ap (λ (b : Bool). cond b (Err OutOfRange) (Ok (One (logarithm_at (units_of (fin t m g)))))) (sym (ap₂ (λ (a b : Bool). a || b) v.0 (zero_same (fin t m g) f s d k p t m g v) ∙ ap (λ (a : Bool). not a || s || eqb d 0) (sym p.kind) ∙ h))

@@ -1,4 +1,5 @@
 -- The logarithm, as its steps give it, lies near the exact sum. Assumes nothing.
+use Rattle.std.specs.Prelude.{Result, Ok, Err}
 use mathlib.Core.Path.{◌≡◌, refl, sym, ap, subst}
 use mathlib.Core.Bool.{Bool, true, false, cond}
 use Prim.Native.Nat.{ℕ, zero, suc, ◌+◌, ◌-◌, ◌*◌, ◌^◌, ◌≤◌, ◌<◌}
@@ -8,7 +9,9 @@ use lib.Dec.{T, eqb, eqb→eq, lit≤}
 use lib.Pow.{pow_pos}
 use lib.Ieee.{Float, nan, inf, fin, binary64, fits}
 use Rattle.answer.specs.declared.Answer.{Answer}
-use Rattle.answer.specs.declared.Answer.TheVariants.{One, Refused}
+use Rattle.answer.specs.declared.Refusal.{Refusal}
+use Rattle.answer.specs.declared.Answer.TheVariants.{One}
+use Rattle.answer.specs.declared.Refusal.TheVariants.{OutOfRange}
 use Rattle.answer.specs.Answer.{OneThat}
 use Rattle.bounds.specs.Fractions.{◌over◌, ◌⊞◌, times}
 use Rattle.logarithm.specs.Series.{S, units_of, places, logarithmic, LogarithmWithin}
@@ -114,12 +117,12 @@ log_within c d h l (fin false (suc m) e) f = go (eqb (suc m) 0) (eqb→eq (suc m
     N = units_of (fin false (suc m) e)
 
     go : (b : Bool) → (T b → suc m ≡ 0)
-        → cond b (cond b (Refused 12) (One (logarithm_at N)) ≡ Refused 12) (OneThat (Close ((distance_of (places N) 1074 + 1) over 2 ^ d) (logarithmic N) false) (cond b (Refused 12) (One (logarithm_at N))))
+        → cond b (cond b (Err OutOfRange) (Ok (One (logarithm_at N))) ≡ Err OutOfRange) (OneThat (Close ((distance_of (places N) 1074 + 1) over 2 ^ d) (logarithmic N) false) (cond b (Err OutOfRange) (Ok (One (logarithm_at N)))))
     go true z = absurd (let y = z tt in omega arith)
     go false z = log_close N (units_pos false m e f) (units_lt false m e f) c d h l
 
 -- ---- the contract, from the steps: 2^62 units are 2^16 of 2^-46 and 2^9 of 2^-53
-pub log_promise : (x : Float) (r : Answer) → T (fits binary64 x) → r ≡ logarithm_of x → (r ≡ logarithm_of x) × LogarithmWithin 46 x r × LogarithmWithin 53 x r
+pub log_promise : (x : Float) (r : Result Answer Refusal) → T (fits binary64 x) → r ≡ logarithm_of x → (r ≡ logarithm_of x) × LogarithmWithin 46 x r × LogarithmWithin 53 x r
 log_promise x r f e =
-    subst (λ (a : Answer). (a ≡ logarithm_of x) × LogarithmWithin 46 x a × LogarithmWithin 53 x a) (sym e)
+    subst (λ (a : Result Answer Refusal). (a ≡ logarithm_of x) × LogarithmWithin 46 x a × LogarithmWithin 53 x a) (sym e)
     (refl, log_within (2 ^ 16) 46 refl (lit≤ tt) x f, log_within (2 ^ 9) 53 refl (lit≤ tt) x f)

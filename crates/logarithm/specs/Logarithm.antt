@@ -1,10 +1,12 @@
 -- The steps of the logarithm: docs/STEPS.md, "Logarithm". Definitions only.
-use Rattle.std.specs.Prelude.{◌≡◌, ◌||◌, ℕ, zero, suc, ◌+◌, ◌-◌, ◌*◌, ◌/◌, ◌^◌, ltb, eqb, Float}
+use Rattle.std.specs.Prelude.{◌≡◌, ◌||◌, ℕ, zero, suc, ◌+◌, ◌-◌, ◌*◌, ◌/◌, ◌^◌, ltb, eqb, Float, Result, Ok, Err}
 use Rattle.std.specs.Float.{nan, inf, fin, binary64}
 use Rattle.std.specs.Float.Ieee.{round}
 use Rattle.laws.specs.Ladder.{when◌gives◌else◌}
 use Rattle.answer.specs.declared.Answer.{Answer}
-use Rattle.answer.specs.declared.Answer.TheVariants.{One, Refused}
+use Rattle.answer.specs.declared.Refusal.{Refusal}
+use Rattle.answer.specs.declared.Answer.TheVariants.{One}
+use Rattle.answer.specs.declared.Refusal.TheVariants.{NotANumber, OutOfRange}
 use Rattle.bounds.specs.Close.{distance_of}
 use Rattle.logarithm.specs.Series.{units_of, places}
 
@@ -29,12 +31,12 @@ logarithm_at N =
     let b = (1074 - w) * third + part_of (2 ^ w - N) (N + 2 ^ w) in
     round binary64 (ltb a b) (distance_of a b) (2 ^ 62)
 
-unfoldable pub logarithm_of : Float → Answer
-logarithm_of nan = Refused 1
-logarithm_of (inf s) = Refused 12
+unfoldable pub logarithm_of : Float → Result Answer Refusal
+logarithm_of nan = Err NotANumber
+logarithm_of (inf s) = Err OutOfRange
 logarithm_of (fin s m e) =
-    when s || eqb m 0 gives Refused 12 else
-    One (logarithm_at (units_of (fin s m e)))
+    when s || eqb m 0 gives Err OutOfRange else
+    Ok (One (logarithm_at (units_of (fin s m e))))
 
 -- ---- what the steps promise each other
 

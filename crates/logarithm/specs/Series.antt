@@ -1,9 +1,10 @@
 -- The sum of the logarithm of 01, module 2, as an exact fraction, and 01's bound of it. Definitions only.
-use Rattle.std.specs.Prelude.{◌≡◌, false, cond, ◌||◌, ℕ, zero, suc, ◌+◌, ◌-◌, ◌*◌, ◌/◌, ◌^◌, ltb, eqb, Float}
+use Rattle.std.specs.Prelude.{◌≡◌, false, cond, ◌||◌, ℕ, zero, suc, ◌+◌, ◌-◌, ◌*◌, ◌/◌, ◌^◌, ltb, eqb, Float, Result, Err}
 use Rattle.std.specs.Float.{nan, inf, fin}
 use Rattle.std.specs.Float.Ieee.{up, down, size}
 use Rattle.answer.specs.declared.Answer.{Answer}
-use Rattle.answer.specs.declared.Answer.TheVariants.{Refused}
+use Rattle.answer.specs.declared.Refusal.{Refusal}
+use Rattle.answer.specs.declared.Refusal.TheVariants.{NotANumber, OutOfRange}
 use Rattle.answer.specs.Answer.{OneThat}
 use Rattle.bounds.specs.Fractions.{Fraction, Difference, ◌over◌, ◌⊞◌, times}
 use Rattle.bounds.specs.Close.{distance_of, Close}
@@ -41,10 +42,10 @@ logarithmic N =
 -- ---- the bound
 
 -- 01: within (|k| + 1) 2^-d of k S(1/3) + S((f - 1) / (f + 1)); zero, negative and infinite x are refusal 12
-unfoldable pub LogarithmWithin : ℕ → Float → Answer → Type 0
-LogarithmWithin d nan r = r ≡ Refused 1
-LogarithmWithin d (inf s) r = r ≡ Refused 12
+unfoldable pub LogarithmWithin : ℕ → Float → Result Answer Refusal → Type 0
+LogarithmWithin d nan r = r ≡ Err NotANumber
+LogarithmWithin d (inf s) r = r ≡ Err OutOfRange
 LogarithmWithin d (fin s m e) r =
     let N = units_of (fin s m e) in
     let w = places N in
-    cond (s || eqb m 0) (r ≡ Refused 12) (OneThat (Close ((distance_of w 1074 + 1) over 2 ^ d) (logarithmic N) false) r)
+    cond (s || eqb m 0) (r ≡ Err OutOfRange) (OneThat (Close ((distance_of w 1074 + 1) over 2 ^ d) (logarithmic N) false) r)

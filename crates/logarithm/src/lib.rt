@@ -14,7 +14,7 @@ ghost use Rattle.logarithm.specs.Series.{LogarithmWithin};
 mod factors;
 mod series;
 
-use answer::Answer;
+use answer::{Answer, Refusal};
 use bits::{less, minus, parts, rounded};
 use factors::factored;
 use series::{part, sum};
@@ -42,15 +42,15 @@ fn natural(digits: u64, exponent: u64) -> f64
 }
 
 // Within (|k| + 1) 2^-53 of that sum; +0 for 1.
-pub fn logarithm(x: f64) -> Answer
+pub fn logarithm(x: f64) -> Result<Answer, Refusal>
     ensures { (result ≡ logarithm_of x) × LogarithmWithin 46 x result × LogarithmWithin 53 x result }
 {
     if x != x {
-        return Answer::Refused(1);
+        return Err(Refusal::NotANumber);
     }
     let p = parts(x);
     if !p.finite | p.negative | (p.digits == 0) {
-        return Answer::Refused(12);
+        return Err(Refusal::OutOfRange);
     }
-    Answer::One(natural(p.digits, p.exponent))
+    Ok(Answer::One(natural(p.digits, p.exponent)))
 }

@@ -1,5 +1,5 @@
 -- ellipeinc as it was before it scaled, with the steps of 02's [7] and the rounds of [3]; where it does not scale it is the same. Definitions only.
-use Rattle.std.specs.Prelude.{◌+◌, ◌≡◌, true, false, cond, ◌||◌, ◌&&◌, T, Float}
+use Rattle.std.specs.Prelude.{◌+◌, ◌≡◌, true, false, cond, ◌||◌, ◌&&◌, T, Float, Ok, Err}
 use Rattle.std.specs.Float.{binary64}
 use Rattle.std.specs.Float.Ieee.{fits}
 use Rattle.laws.specs.Arithmetic.{◌⊕◌, ◌⊖◌, ◌⊗◌, ◌⊘◌, ◌<·◌, ◌≤·◌, ◌=·◌, ◌≠·◌, +0, +∞, -∞, 1·0, 3·0}
@@ -9,7 +9,8 @@ use Rattle.root.specs.Root.{root_of}
 use Rattle.rd.specs.Rd.{rd_of}
 use Rattle.answer.specs.Answer.{value_of}
 use Rattle.answer.specs.Settle.{unasked_of}
-use Rattle.answer.specs.declared.Answer.TheVariants.{One, Infinite, Refused}
+use Rattle.answer.specs.declared.Answer.TheVariants.{One, Infinite}
+use Rattle.answer.specs.declared.Refusal.TheVariants.{NotANumber, AboveOne, Beyond}
 use Rattle.answer.specs.declared.Counted.{Counted}
 use Rattle.answer.specs.declared.Term.{Term}
 use Rattle.angle.specs.Sine.{sine_of}
@@ -42,7 +43,7 @@ by_recipe_before sign m f =
     let s = value_of (sine_of f.angle) in
     let c = value_of (cosine_of f.angle) in
     let e = recipe_before m (s ⊗ s) (c ⊗ c) in
-    when 1·0 ≤· m ⊗ (s ⊗ s) gives unasked_of (Refused 3) else
+    when 1·0 ≤· m ⊗ (s ⊗ s) gives unasked_of (Err Beyond) else
     record { answer = with_periods_of sign m f.mm e.met (f.s ⊗ e.value); rounds = e.rounds }
 
 unfoldable pub reduced_before : Float → Float → Float → Counted
@@ -59,12 +60,12 @@ on_size_before sign size m =
 
 unfoldable pub ellipeinc_before : Float → Float → Counted
 ellipeinc_before φ m =
-    when φ =· +0 gives unasked_of (One +0) else
+    when φ =· +0 gives unasked_of (Ok (One +0)) else
     when m =· +0 gives unasked_of (itself_of φ) else
-    when magnitude_of φ =· +∞ gives unasked_of (Infinite (φ <· +0)) else
-    when φ ≠· φ && 1·0 <· m gives unasked_of (Refused 2) else
-    when φ ≠· φ || m ≠· m gives unasked_of (Refused 1) else
-    when m =· -∞ gives unasked_of (Infinite (φ <· +0)) else
+    when magnitude_of φ =· +∞ gives unasked_of (Ok (Infinite (φ <· +0))) else
+    when φ ≠· φ && 1·0 <· m gives unasked_of (Err AboveOne) else
+    when φ ≠· φ || m ≠· m gives unasked_of (Err NotANumber) else
+    when m =· -∞ gives unasked_of (Ok (Infinite (φ <· +0))) else
     on_size_before (sign_of φ) (magnitude_of φ) m
 
 -- ---- where nothing is scaled, every bit, every refusal and every number of rounds is as before

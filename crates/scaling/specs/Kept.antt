@@ -1,5 +1,5 @@
 -- RJ as it was before a value below 2^-960 became NaN, ellippi as it was made of it, and how what is answered now compares. Definitions only.
-use Rattle.std.specs.Prelude.{ℕ, ◌+◌, ◌≡◌, ◌⊎◌, false, ◌||◌, ◌&&◌, T, Float}
+use Rattle.std.specs.Prelude.{ℕ, ◌+◌, ◌≡◌, ◌⊎◌, false, ◌||◌, ◌&&◌, T, Float, Result, Ok, Err}
 use Rattle.std.specs.Float.{binary64, nan}
 use Rattle.std.specs.Float.Ieee.{fits, neg}
 use Rattle.std.specs.Float.Ieee.Scale.{finite}
@@ -13,7 +13,9 @@ use Rattle.rj.specs.Rj as Rj
 use Rattle.answer.specs.Answer.{refusal_of, value_of}
 use Rattle.answer.specs.Settle.{settled_of, unasked_of}
 use Rattle.answer.specs.declared.Answer.{Answer}
-use Rattle.answer.specs.declared.Answer.TheVariants.{One, Infinite, Refused}
+use Rattle.answer.specs.declared.Refusal.{Refusal}
+use Rattle.answer.specs.declared.Answer.TheVariants.{One, Infinite}
+use Rattle.answer.specs.declared.Refusal.TheVariants.{NotANumber, AboveOne, CharacteristicOne, NotFinite}
 use Rattle.answer.specs.declared.Counted.{Counted}
 use Rattle.answer.specs.declared.Term.{Term}
 use Rattle.legendre.specs.Ellipk.{ellipk_of}
@@ -28,8 +30,8 @@ abbrev pub KeptValue : Float → Float → Type 0
 KeptValue before now = (now ≡ before) ⊎ (now ≡ nan)
 
 -- the answer from before, or refusal 6
-abbrev pub KeptAnswer : Answer → Answer → Type 0
-KeptAnswer before now = (now ≡ before) ⊎ (now ≡ Refused 6)
+abbrev pub KeptAnswer : Result Answer Refusal → Result Answer Refusal → Type 0
+KeptAnswer before now = (now ≡ before) ⊎ (now ≡ Err NotFinite)
 
 pub record KeptOutcome (before now : Outcome) : Type 0 where
   pub value : KeptValue before.value now.value
@@ -102,11 +104,11 @@ arms_before n m =
 unfoldable pub ellippi_before : Float → Float → Counted
 ellippi_before n m =
     let t = arms_before n m in
-    when n ≠· n || m ≠· m gives unasked_of (Refused 1) else
-    when 1·0 <· m gives unasked_of (Refused 2) else
-    when n =· 1·0 gives unasked_of (Refused 4) else
-    when m =· 1·0 gives unasked_of (Infinite (1·0 ⊖ n <· +0)) else
-    when n =· -∞ || m =· -∞ gives unasked_of (One +0) else
+    when n ≠· n || m ≠· m gives unasked_of (Err NotANumber) else
+    when 1·0 <· m gives unasked_of (Err AboveOne) else
+    when n =· 1·0 gives unasked_of (Err CharacteristicOne) else
+    when m =· 1·0 gives unasked_of (Ok (Infinite (1·0 ⊖ n <· +0))) else
+    when n =· -∞ || m =· -∞ gives unasked_of (Ok (One +0)) else
     record { answer = settled_of t.met t.value; rounds = t.rounds }
 
 -- ---- where the weight is formed as before, a number that is handed out has the bits from before

@@ -1,9 +1,10 @@
 -- An edit (01, "The leg sheet"): what is entered, the row that it is worked out to, and what the call answers and makes of the sheet's bytes. Definitions only.
-use Rattle.std.specs.Prelude.{ℕ, cond, not, List, [], ◌∷◌, ltb, eqb}
+use Rattle.std.specs.Prelude.{ℕ, cond, not, List, [], ◌∷◌, ltb, eqb, Result}
 use Rattle.std.specs.Float.{binary64}
 use Rattle.std.specs.Float.Ieee.{to_bits}
 use Rattle.laws.specs.Ladder.{when◌gives◌else◌}
 use Rattle.answer.specs.declared.Answer.{Answer}
+use Rattle.answer.specs.declared.Refusal.{Refusal}
 use Rattle.answer.specs.Answer.{refusal_of, first_of, second_of}
 use Rattle.sheet.specs.Functions.{evaluate_of, used_of}
 use Rattle.ledger.specs.Sheet.{Row, with_times, row_bytes, blank_row}
@@ -29,7 +30,7 @@ kept_of e = record {
 -- ---- its row
 
 -- what the function answers
-abbrev pub answer_of : Entry → Answer
+abbrev pub answer_of : Entry → Result Answer Refusal
 answer_of e = evaluate_of e.function e.a e.b e.c
 
 -- the function, its arguments, its times and its answer, as a row

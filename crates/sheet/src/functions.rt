@@ -2,7 +2,7 @@
 ghost use Rattle.std.specs.Prelude.{◌≡◌};
 ghost use Rattle.sheet.specs.Functions.{counted_of, evaluate_of, used_of};
 
-use answer::{Amplitude, Answer, Characteristic, Counted, Parameter, unasked};
+use answer::{Amplitude, Answer, Characteristic, Counted, Parameter, Refusal, unasked};
 
 // How many of the three arguments the function of this number reads.
 pub fn used(function: u8) -> u8
@@ -25,19 +25,19 @@ pub fn counted(function: u8, a: u64, b: u64, c: u64) -> Counted
     let x = bits::from_pattern(a);
     let y = bits::from_pattern(b);
     match function {
-        0 => unasked(Answer::One(0.0)),
+        0 => unasked(Ok(Answer::One(0.0))),
         1 => unasked(legendre::ellipk(Parameter(x))),
         2 => unasked(legendre::ellipe(Parameter(x))),
         3 => unasked(legendre::ellipke(Parameter(x))),
         4 => ellippi::ellippi(Characteristic(x), Parameter(y)),
         5 => ellipeinc::ellipeinc(Amplitude(x), Parameter(y)),
         6 => ellipf::ellipf(Amplitude(x), Parameter(y)),
-        _ => unasked(Answer::Refused(9)),
+        _ => unasked(Err(Refusal::NoSuchFunction)),
     }
 }
 
 // The answer alone.
-pub fn evaluate(function: u8, a: u64, b: u64, c: u64) -> Answer
+pub fn evaluate(function: u8, a: u64, b: u64, c: u64) -> Result<Answer, Refusal>
     ensures { result ≡ evaluate_of function a b c }
 {
     counted(function, a, b, c).answer

@@ -4,7 +4,7 @@
 ghost use Rattle.std.specs.Prelude.{◌<◌, ◌≤◌};
 
 use crate::spelling::{float, shaped, word};
-use answer::Answer;
+use answer::{Answer, Refusal};
 use carlson::Outcome;
 use line::Number;
 
@@ -149,7 +149,7 @@ fn agrees_near(kind: u8, s: &[u8]) -> Shown {
 }
 
 // Sine, cosine and logarithm.
-fn computed(kind: u8, x: f64) -> Answer {
+fn computed(kind: u8, x: f64) -> Result<Answer, Refusal> {
     if kind == 11 {
         return angle::sine(x);
     }

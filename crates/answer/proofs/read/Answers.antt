@@ -2,18 +2,10 @@
 use Rattle.answer.specs.Answer.{refusal_of, first_of, second_of}
 use Rattle.answer.proofs.read.Goals as goal
 
-pub returns-in-One : goal.returns-in-One
+pub returns-in-Ok : goal.returns-in-Ok
 unfolding refusal_of first_of second_of
-returns-in-One c = rw c.in-One.is
+returns-in-Ok c = rw (c.first.ensures, c.second.ensures, c.in-Ok.is)
 
-pub returns-in-Pair : goal.returns-in-Pair
+pub returns-in-Err : goal.returns-in-Err
 unfolding refusal_of first_of second_of
-returns-in-Pair c = rw c.in-Pair.is
-
-pub returns-in-Infinite : goal.returns-in-Infinite
-unfolding refusal_of first_of second_of
-returns-in-Infinite c = rw (c.infinity-x.ensures, c.in-Infinite.is)
-
-pub returns-in-Refused : goal.returns-in-Refused
-unfolding refusal_of first_of second_of
-returns-in-Refused c = rw c.in-Refused.is
+returns-in-Err c = rw (c.number.ensures, c.in-Err.is)

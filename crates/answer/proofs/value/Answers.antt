@@ -1,20 +1,12 @@
--- `value` gives the first value of each case, and 0/0 for a refusal.
+-- `value` gives the first value, and 0/0 for a refusal.
 use lib.Ieee.{div, of_bits}
-use Rattle.answer.specs.Answer.{value_of, first_of}
+use Rattle.answer.specs.Answer.{value_of}
 use Rattle.answer.proofs.value.Goals as goal
 
-pub returns-in-One : goal.returns-in-One
-unfolding value_of first_of
-returns-in-One c = rw c.in-One.is
+pub returns-in-Ok : goal.returns-in-Ok
+unfolding value_of
+returns-in-Ok c = rw (c.first.ensures, c.in-Ok.is)
 
-pub returns-in-Pair : goal.returns-in-Pair
-unfolding value_of first_of
-returns-in-Pair c = rw c.in-Pair.is
-
-pub returns-in-Infinite : goal.returns-in-Infinite
-unfolding value_of first_of
-returns-in-Infinite c = rw (c.infinity.ensures, c.in-Infinite.is)
-
-pub returns-in-Refused : goal.returns-in-Refused
+pub returns-in-Err : goal.returns-in-Err
 unfolding value_of div of_bits
-returns-in-Refused c = rw c.in-Refused.is
+returns-in-Err c = rw c.in-Err.is

@@ -1,12 +1,13 @@
 -- The code tells the three kinds of value apart by tests: `v != v` holds of NaN alone, and only an infinity equals one. Assumes nothing.
-use Rattle.std.specs.Prelude.{◌≡◌, refl, Bool, true, false, cond, ◌||◌, Float}
+use Rattle.std.specs.Prelude.{◌≡◌, refl, Bool, true, false, cond, ◌||◌, Float, Ok, Err}
 use Rattle.std.proofs.Common.{◌∙◌, ap}
 use Rattle.std.specs.Float.{nan, inf, fin}
 use Rattle.std.specs.Float.Ieee.{eq, lt, of_bits, is_nan}
 use Rattle.laws.specs.Arithmetic.{◌=·◌, ◌<·◌, ◌≠·◌, +0, +∞, -∞}
 use Rattle.laws.specs.Ladder.{when◌gives◌else◌}
 use Rattle.laws.specs.laws.Kinds.{differs_is}
-use Rattle.answer.specs.declared.Answer.TheVariants.{One, Infinite, Refused}
+use Rattle.answer.specs.declared.Answer.TheVariants.{One, Infinite}
+use Rattle.answer.specs.declared.Refusal.TheVariants.{NotFinite}
 use Rattle.answer.specs.Settle.{infinite_of, finite_of, handed_of}
 
 pub infinite_is : (v : Float) → (v =· +∞ || v =· -∞) ≡ infinite_of v
@@ -16,20 +17,20 @@ infinite_is (inf true) = refl
 infinite_is (inf false) = refl
 infinite_is (fin s m e) = refl
 
-pub finite_is : (v : Float) → cond (v ≠· v || infinite_of v) (Refused 6) (One v) ≡ finite_of v
+pub finite_is : (v : Float) → cond (v ≠· v || infinite_of v) (Err NotFinite) (Ok (One v)) ≡ finite_of v
 unfolding is_nan infinite_of finite_of
-finite_is v = ap (λ (t : Bool). cond (t || infinite_of v) (Refused 6) (One v)) (differs_is v) ∙ kinds v
+finite_is v = ap (λ (t : Bool). cond (t || infinite_of v) (Err NotFinite) (Ok (One v))) (differs_is v) ∙ kinds v
   where
-    kinds : (v : Float) → cond (is_nan v || infinite_of v) (Refused 6) (One v) ≡ finite_of v
+    kinds : (v : Float) → cond (is_nan v || infinite_of v) (Err NotFinite) (Ok (One v)) ≡ finite_of v
     kinds nan = refl
     kinds (inf s) = refl
     kinds (fin s m e) = refl
 
-pub handed_is : (v : Float) → (when v ≠· v gives Refused 6 else when infinite_of v gives Infinite (v <· +0) else One v) ≡ handed_of v
+pub handed_is : (v : Float) → (when v ≠· v gives Err NotFinite else when infinite_of v gives Ok (Infinite (v <· +0)) else Ok (One v)) ≡ handed_of v
 unfolding is_nan infinite_of handed_of lt of_bits
-handed_is v = ap (λ (t : Bool). cond t (Refused 6) (cond (infinite_of v) (Infinite (v <· +0)) (One v))) (differs_is v) ∙ kinds v
+handed_is v = ap (λ (t : Bool). cond t (Err NotFinite) (cond (infinite_of v) (Ok (Infinite (v <· +0))) (Ok (One v)))) (differs_is v) ∙ kinds v
   where
-    kinds : (v : Float) → cond (is_nan v) (Refused 6) (cond (infinite_of v) (Infinite (v <· +0)) (One v)) ≡ handed_of v
+    kinds : (v : Float) → cond (is_nan v) (Err NotFinite) (cond (infinite_of v) (Ok (Infinite (v <· +0))) (Ok (One v))) ≡ handed_of v
     kinds nan = refl
     kinds (inf s) = refl
     kinds (fin s m e) = refl

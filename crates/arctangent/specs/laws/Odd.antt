@@ -1,5 +1,5 @@
 -- The arc tangent is odd, bit for bit, so that -0 goes to -0. Assumes nothing.
-use Rattle.std.specs.Prelude.{◌≡◌, Bool, true, false, not, cond, ℕ, ◌-◌, ◌*◌, ◌/◌, ◌^◌, T, ltb, Float}
+use Rattle.std.specs.Prelude.{◌≡◌, Bool, true, false, not, cond, ℕ, ◌-◌, ◌*◌, ◌/◌, ◌^◌, T, ltb, Float, Ok}
 use Rattle.std.proofs.Common.{ap}
 use Rattle.std.specs.Float.{nan, inf, fin, binary64}
 use Rattle.std.specs.Float.Ieee.{up, down, round, neg, is_nan}
@@ -19,8 +19,8 @@ at_odd s p q =
     go a c d true = round-neg binary64 s a c
     go a c d false = round-neg binary64 s d (2 ^ 63)
 
-pub odd : (x : Float) → T (not (is_nan x)) → arctangent_of (neg x) ≡ One (neg (value_of (arctangent_of x)))
+pub odd : (x : Float) → T (not (is_nan x)) → arctangent_of (neg x) ≡ Ok (One (neg (value_of (arctangent_of x))))
 unfolding arctangent_of value_of neg is_nan
 odd nan h = absurd h
-odd (inf s) h = ap One (round-neg binary64 s (right_sides.added - right_sides.taken) (2 ^ 63))
-odd (fin s m e) h = ap One (at_odd s (m * up e) (down e))
+odd (inf s) h = ap (λ (v : Float). Ok (One v)) (round-neg binary64 s (right_sides.added - right_sides.taken) (2 ^ 63))
+odd (fin s m e) h = ap (λ (v : Float). Ok (One v)) (at_odd s (m * up e) (down e))

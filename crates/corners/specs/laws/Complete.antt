@@ -1,10 +1,11 @@
 -- The rows of 01's corner table that are this crate's, proved together, each by computing it.
-use Rattle.std.specs.Prelude.{◌≡◌, refl}
+use Rattle.std.specs.Prelude.{◌≡◌, refl, Ok, Err}
 use Rattle.std.specs.Float.{nan}
 use Rattle.std.specs.Float.Ieee.{of_bits, mul, lt, eq, ne, neg, to_unsigned}
 use Rattle.laws.specs.Arithmetic.{float, dec, +0, +∞, -∞, 1·0, ε}
 use Rattle.root.specs.Root.{root_of}
-use Rattle.answer.specs.declared.Answer.TheVariants.{Pair, Refused}
+use Rattle.answer.specs.declared.Answer.TheVariants.{Pair}
+use Rattle.answer.specs.declared.Refusal.TheVariants.{NotANumber, AboveOne}
 use Rattle.legendre.specs.Domain.{by_domain}
 use Rattle.pieces.specs.Piece.{truncated_of, row_of, piece_of}
 use Rattle.legendre.specs.Ellipe.{√ε}
@@ -14,10 +15,10 @@ pub record Corners : Type 0 where
   -- the f64 0.85 lies below 17/20, and 20 times it, rounded, is 17: the last of the ten pieces
   pub piece : truncated_of (dec 85 2) ≡ 17
   pub row : piece_of (dec 85 2) ≡ 9
-  pub one : ellipke_of 1·0 ≡ Pair +∞ 1·0
-  pub lowest : ellipke_of -∞ ≡ Pair +0 +∞
-  pub above : ellipke_of (float 0x3ff0_0000_0000_0001) ≡ Refused 2
-  pub not-a-number : ellipke_of nan ≡ Refused 1
+  pub one : ellipke_of 1·0 ≡ Ok (Pair +∞ 1·0)
+  pub lowest : ellipke_of -∞ ≡ Ok (Pair +0 +∞)
+  pub above : ellipke_of (float 0x3ff0_0000_0000_0001) ≡ Err AboveOne
+  pub not-a-number : ellipke_of nan ≡ Err NotANumber
   -- the files' `epsilon().sqrt()`
   pub root_epsilon : root_of ε ≡ √ε
 

@@ -1,11 +1,12 @@
 -- Answers with their rounds, down a list of tests: rounds are made only below those that ask no recipe. Assumes nothing.
-use Rattle.std.specs.Prelude.{◌≡◌, refl, Bool, true, false, cond, ℕ, zero, suc, ◌<◌}
+use Rattle.std.specs.Prelude.{◌≡◌, refl, Bool, true, false, cond, ℕ, zero, suc, ◌<◌, Result}
 use Rattle.std.proofs.Common.{arith}
 use Rattle.answer.specs.declared.Answer.{Answer}
+use Rattle.answer.specs.declared.Refusal.{Refusal}
 use Rattle.answer.specs.declared.Counted.{Counted}
 use Rattle.answer.specs.Settle.{unasked_of}
 
-pub asked : (t : Bool) (a : Answer) (c : Counted) → 0 < (cond t (unasked_of a) c).rounds → (t ≡ false) × (0 < c.rounds)
+pub asked : (t : Bool) (a : Result Answer Refusal) (c : Counted) → 0 < (cond t (unasked_of a) c).rounds → (t ≡ false) × (0 < c.rounds)
 asked true a c h = absurd (let z : ⊥ = omega arith in z)
 asked false a c h = (refl, h)
 

@@ -1,8 +1,9 @@
 -- Which sort each argument is (01: amplitude, characteristic and parameter are three sorts of number). The three are three types in a statement as they
 -- are in a call: where one belongs, another is refused. Shown in proofs/Sorts.
-use Rattle.std.specs.Prelude.{◌≡◌, ℕ}
+use Rattle.std.specs.Prelude.{◌≡◌, ℕ, Result}
 use Rattle.laws.specs.Arithmetic.{float}
 use Rattle.answer.specs.declared.Answer.{Answer}
+use Rattle.answer.specs.declared.Refusal.{Refusal}
 use Rattle.answer.specs.declared.Amplitude.{Amplitude}
 use Rattle.answer.specs.declared.Characteristic.{Characteristic}
 use Rattle.answer.specs.declared.Parameter.{Parameter}
@@ -24,22 +25,22 @@ abbrev parameter : ℕ → Parameter
 parameter p = record { 0 = float p }
 
 -- what the public calls ensure
-abbrev k : Parameter → Answer
+abbrev k : Parameter → Result Answer Refusal
 k m = ellipk_of m.0
 
-abbrev e : Parameter → Answer
+abbrev e : Parameter → Result Answer Refusal
 e m = ellipe_of m.0
 
-abbrev ke : Parameter → Answer
+abbrev ke : Parameter → Result Answer Refusal
 ke m = ellipke_of m.0
 
-abbrev pi : Characteristic → Parameter → Answer
+abbrev pi : Characteristic → Parameter → Result Answer Refusal
 pi n m = ellippi_of n.0 m.0
 
-abbrev einc : Amplitude → Parameter → Answer
+abbrev einc : Amplitude → Parameter → Result Answer Refusal
 einc φ m = ellipeinc_of φ.0 m.0
 
-abbrev f : Amplitude → Parameter → Answer
+abbrev f : Amplitude → Parameter → Result Answer Refusal
 f φ m = ellipf_of φ.0 m.0
 
 pub record Sorts (a b c : ℕ) : Type 0 where

@@ -5,6 +5,7 @@ use Rattle.std.specs.Float.Ieee.{fits, of_bits}
 use Rattle.std.specs.Float.Ieee.Fits.{mul-fits}
 use Rattle.laws.specs.Arithmetic.{◌⊗◌, ◌<·◌, ◌≤·◌, ◌=·◌, ◌≠·◌, +0, +∞, -∞, 1·0}
 use Rattle.whole.specs.Whole.{magnitude_of}
+use Rattle.answer.specs.declared.Refusal.TheVariants.{NotANumber, Beyond}
 use Rattle.answer.specs.Answer.{value_of}
 use Rattle.answer.specs.laws.Fair.{May, Fair, FairOf, among, refused, answered, rung, settled_fair, handed_fair}
 use Rattle.angle.specs.Sine.{sine_of}
@@ -29,13 +30,13 @@ reduced_fair : (sign size m : Float) → FairOf ellipf_may (reduced_of sign size
 unfolding reduced_of among
 reduced_fair sign size m =
     let s = value_of (sine_of (folded_of size).angle) in
-    rung (FairOf ellipf_may) (1·0 ≤· m ⊗ (s ⊗ s)) _ _ (refused ellipf_may 3 tt) (periods_fair sign m _ _)
+    rung (FairOf ellipf_may) (1·0 ≤· m ⊗ (s ⊗ s)) _ _ (refused ellipf_may Beyond tt) (periods_fair sign m _ _)
 
 pub ellipf_fair : (φ m : Float) → T (fits binary64 φ) → Fair ellipf_may (ellipf_of φ m)
 unfolding ellipf_of counted_of far_of among
 ellipf_fair φ m F =
     let size = magnitude_of φ in
-    rung (FairOf ellipf_may) (φ ≠· φ || m ≠· m) _ _ (refused ellipf_may 1 tt)
+    rung (FairOf ellipf_may) (φ ≠· φ || m ≠· m) _ _ (refused ellipf_may NotANumber tt)
     (rung (FairOf ellipf_may) (m =· +0) _ _ (handed_fair ellipf_may φ tt F)
-    (rung (FairOf ellipf_may) (pole_of φ m) _ _ (refused ellipf_may 3 tt)
+    (rung (FairOf ellipf_may) (pole_of φ m) _ _ (refused ellipf_may Beyond tt)
     (rung (FairOf ellipf_may) (far_out <· size) _ _ (rung (Fair ellipf_may) (size =· +∞) _ _ (handed_fair ellipf_may _ tt (mul-fits binary64 _ _)) (handed_fair ellipf_may _ tt (mul-fits binary64 _ _))) (reduced_fair (signum_of φ) size m))))

@@ -1,9 +1,10 @@
 -- What the answers of ellippi can be, for every argument. Assumes nothing.
-use Rattle.std.specs.Prelude.{[], ◌∷◌, Bool, true, false, cond, ◌&&◌, ◌||◌, T, Float}
+use Rattle.std.specs.Prelude.{[], ◌∷◌, Bool, true, false, cond, ◌&&◌, ◌||◌, T, Float, Ok}
 use Rattle.std.specs.Float.{binary64}
 use Rattle.std.specs.Float.Ieee.{fits, of_bits}
 use Rattle.std.specs.Float.Ieee.Fits.{add-fits, mul-fits, div-fits}
 use Rattle.laws.specs.Arithmetic.{◌⊖◌, ◌<·◌, ◌=·◌, ◌≠·◌, +0, -∞, 1·0}
+use Rattle.answer.specs.declared.Refusal.TheVariants.{NotANumber, AboveOne, CharacteristicOne}
 use Rattle.answer.specs.Answer.{value_of}
 use Rattle.answer.specs.declared.Counted.{Counted}
 use Rattle.answer.specs.declared.Answer.TheVariants.{Infinite}
@@ -17,7 +18,7 @@ abbrev pub ellippi_may : Bool → May
 ellippi_may one = record { tests = 1 ∷ 2 ∷ 4 ∷ []; infinite = one }
 
 -- ---- infinite only where m is 1
-at_one : (t s : Bool) (c : Counted) → FairOf (ellippi_may false) c → FairOf (ellippi_may t) (cond t (unasked_of (Infinite s)) c)
+at_one : (t s : Bool) (c : Counted) → FairOf (ellippi_may false) c → FairOf (ellippi_may t) (cond t (unasked_of (Ok (Infinite s))) c)
 unfolding Fair
 at_one true s c h = tt
 at_one false s c h = h
@@ -41,8 +42,8 @@ ellippi_fair n m K =
     let one = m =· 1·0 in
     let may = ellippi_may one in
     let no = ellippi_may false in
-    rung (FairOf may) (n ≠· n || m ≠· m) _ _ (refused may 1 tt)
-    (rung (FairOf may) (1·0 <· m) _ _ (refused may 2 tt)
-    (rung (FairOf may) (n =· 1·0) _ _ (refused may 4 tt)
+    rung (FairOf may) (n ≠· n || m ≠· m) _ _ (refused may NotANumber tt)
+    (rung (FairOf may) (1·0 <· m) _ _ (refused may AboveOne tt)
+    (rung (FairOf may) (n =· 1·0) _ _ (refused may CharacteristicOne tt)
     (at_one one (1·0 ⊖ n <· +0) _
     (rung (FairOf no) (n =· -∞ || m =· -∞) _ _ (answered no +0 tt) (settled_fair no _ _ (arms_fit n m K))))))

@@ -1,5 +1,5 @@
 -- Identities of ellipeinc that hold bit for bit: E(0, m) = 0, E(φ, 0) = φ, and E(-φ, m) = -E(φ, m) unless φ is a zero. Assumes nothing.
-use Rattle.std.specs.Prelude.{◌≡◌, refl, ℕ, zero, suc, ◌+◌, ◌*◌, ◌<◌, Bool, true, false, not, cond, ◌&&◌, ◌||◌, ℤ, T, eqb, ltb, Float}
+use Rattle.std.specs.Prelude.{◌≡◌, refl, ℕ, zero, suc, ◌+◌, ◌*◌, ◌<◌, Bool, true, false, not, cond, ◌&&◌, ◌||◌, ℤ, T, eqb, ltb, Float, Result, Ok, Err}
 use Rattle.std.proofs.Common.{sym, ap, ap₂, ◌∙◌, arith, true≢false, ne_eqb, eqb→eq}
 use Rattle.std.proofs.Math.Arith.{le→nltb}
 use Rattle.std.specs.Float.{nan, inf, fin, binary64}
@@ -11,7 +11,9 @@ use Rattle.laws.specs.laws.Flags.{is_some}
 use Rattle.laws.specs.Ladder.{held, passed}
 use Rattle.answer.specs.Answer.{value_of}
 use Rattle.answer.specs.declared.Answer.{Answer}
-use Rattle.answer.specs.declared.Answer.TheVariants.{One, Infinite, Refused}
+use Rattle.answer.specs.declared.Refusal.{Refusal}
+use Rattle.answer.specs.declared.Answer.TheVariants.{One, Infinite}
+use Rattle.answer.specs.declared.Refusal.TheVariants.{NotANumber, AboveOne}
 use Rattle.whole.specs.Whole.{magnitude_of}
 use Rattle.angle.specs.Sine.{sine_of}
 use Rattle.legendre.specs.Domain.{by_domain}
@@ -27,21 +29,21 @@ use Rattle.laws.specs.laws.Kinds.{differs_is}
 use Rattle.identities.specs.Turned.{turn_of, turned_of}
 use Rattle.identities.specs.laws.Odd.{same_kind, one-turned, after, rung, handed_odd}
 
-abbrev answer : Counted → Answer
+abbrev answer : Counted → Result Answer Refusal
 answer c = c.answer
 
 -- ---- E(0, m) = 0 and E(φ, 0) = φ
-pub at_origin : (φ m : Float) → (φ =· +0) ≡ true → ellipeinc_of φ m ≡ One +0
+pub at_origin : (φ m : Float) → (φ =· +0) ≡ true → ellipeinc_of φ m ≡ Ok (One +0)
 unfolding ellipeinc_of counted_of
 at_origin φ m h = ap answer (sym (held _ _ h refl))
 
-own-answer : (φ : Float) → T (finite φ) → itself_of φ ≡ One φ
+own-answer : (φ : Float) → T (finite φ) → itself_of φ ≡ Ok (One φ)
 unfolding itself_of handed_of is_nan
 own-answer (fin s m e) h = sym (passed _ _ (differs_is (fin s m e)) refl)
 own-answer nan h = elim h [ ]
 own-answer (inf _) h = elim h [ ]
 
-pub no_parameter : (φ m : Float) → (φ =· +0) ≡ false → T (finite φ) → (m =· +0) ≡ true → ellipeinc_of φ m ≡ One φ
+pub no_parameter : (φ m : Float) → (φ =· +0) ≡ false → T (finite φ) → (m =· +0) ≡ true → ellipeinc_of φ m ≡ Ok (One φ)
 unfolding ellipeinc_of counted_of
 no_parameter φ m h k z = ap answer (sym (passed _ _ h (held _ _ z refl))) ∙ own-answer φ k
 
@@ -134,20 +136,20 @@ unfolding counted_of turn_of
 odd_of φ m h k =
     sym (passed _ _ k.still refl)
     ∙ rung turned_of (m =· +0) (m =· +0) _ _ _ _ refl (after 0 (itself_odd φ))
-    (rung turned_of _ (magnitude_of φ =· +∞) _ _ _ _ (ap (λ (a : Float). a =· +∞) (magnitude_neg φ)) (after 0 (ap Infinite k.sides))
+    (rung turned_of _ (magnitude_of φ =· +∞) _ _ _ _ (ap (λ (a : Float). a =· +∞) (magnitude_neg φ)) (after 0 (ap (λ (s : Bool). Ok (Infinite s)) k.sides))
     (rung turned_of _ (φ ≠· φ && 1·0 <· m) _ _ _ _ (ap (λ (b : Bool). b && 1·0 <· m) (same_kind φ)) refl
     (rung turned_of _ (φ ≠· φ || m ≠· m) _ _ _ _ (ap (λ (b : Bool). b || m ≠· m) (same_kind φ)) refl
-    (rung turned_of (m =· -∞) (m =· -∞) _ _ _ _ refl (after 0 (ap Infinite k.sides))
+    (rung turned_of (m =· -∞) (m =· -∞) _ _ _ _ refl (after 0 (ap (λ (s : Bool). Ok (Infinite s)) k.sides))
     (ap₂ (λ (s a : Float). on_size_of s a m) (other_sign φ k.sides) (magnitude_neg φ) ∙ size_odd (sign_of φ) (magnitude_of φ) m)))))
     ∙ ap turned_of (passed _ _ h refl)
 
 -- NaN is refused, whatever m is
 abbrev refusals : Float → Counted
-refusals m = cond (m =· +0) (unasked_of (Refused 1)) (cond (1·0 <· m) (unasked_of (Refused 2)) (unasked_of (Refused 1)))
+refusals m = cond (m =· +0) (unasked_of (Err NotANumber)) (cond (1·0 <· m) (unasked_of (Err AboveOne)) (unasked_of (Err NotANumber)))
 
 nan_refused : (m : Float) → counted_of nan m ≡ refusals m
 unfolding counted_of itself_of ne eq le lt of_bits
-nan_refused m = ap (λ (a : Float). cond (m =· +0) (unasked_of (Refused 1)) (cond (a =· +∞) (unasked_of (Infinite false)) (cond (1·0 <· m) (unasked_of (Refused 2)) (unasked_of (Refused 1))))) magnitude_nan
+nan_refused m = ap (λ (a : Float). cond (m =· +0) (unasked_of (Err NotANumber)) (cond (a =· +∞) (unasked_of (Ok (Infinite false))) (cond (1·0 <· m) (unasked_of (Err AboveOne)) (unasked_of (Err NotANumber))))) magnitude_nan
 
 odd_nan : (m : Float) → counted_of (neg nan) m ≡ turned_of (counted_of nan m)
 unfolding neg turn_of
@@ -168,7 +170,7 @@ unfolding value_of ellipe_of ellipe_within by_domain ne eq lt of_bits
 infinite_e = refl
 
 -- a size above 2^52 times +∞, with the sign of φ
-far_product : (size : Float) → (far_out <· size) ≡ true → (s : Bool) → handed_of (cond s (neg 1·0) 1·0 ⊗ (size ⊗ (2·0 ⊗ inf false ⊘ π))) ≡ Infinite s
+far_product : (size : Float) → (far_out <· size) ≡ true → (s : Bool) → handed_of (cond s (neg 1·0) 1·0 ⊗ (size ⊗ (2·0 ⊗ inf false ⊘ π))) ≡ Ok (Infinite s)
 unfolding handed_of mul div lt neg of_bits
 far_product nan h s = absurd (true≢false (sym h))
 far_product (inf true) h s = absurd (true≢false (sym h))
@@ -181,10 +183,10 @@ far_product (fin false zero e) h s = absurd (no_room e h)
     no_room e h = true≢false (sym h ∙ is_false (ltb (1 * 4503599627370496 * down e) (0 * up e * 1)) (le→nltb (1 * 4503599627370496 * down e) (0 * up e * 1) (omega arith)))
 far_product (fin false (suc m) e) h s = ap (λ (b : Bool). handed_of (cond s (neg 1·0) 1·0 ⊗ cond b nan (inf false))) (ne_eqb (suc m) 0 (λ z. omega arith)) ∙ go s
   where
-    go : (s : Bool) → handed_of (cond s (neg 1·0) 1·0 ⊗ inf false) ≡ Infinite s
+    go : (s : Bool) → handed_of (cond s (neg 1·0) 1·0 ⊗ inf false) ≡ Ok (Infinite s)
     go true = refl
     go false = refl
 
-pub far-at_minus_infinity : (φ : Float) → (far_out <· magnitude_of φ) ≡ true → far_of (sign_of φ) (magnitude_of φ) -∞ ≡ Infinite (φ <· +0)
+pub far-at_minus_infinity : (φ : Float) → (far_out <· magnitude_of φ) ≡ true → far_of (sign_of φ) (magnitude_of φ) -∞ ≡ Ok (Infinite (φ <· +0))
 unfolding far_of sign_of lt of_bits
 far-at_minus_infinity φ h = ap (λ (e : Float). handed_of (cond (φ <· +0) (neg 1·0) 1·0 ⊗ (magnitude_of φ ⊗ (2·0 ⊗ e ⊘ π)))) infinite_e ∙ far_product (magnitude_of φ) h (φ <· +0)

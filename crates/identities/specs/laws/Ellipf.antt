@@ -1,5 +1,5 @@
 -- What holds of ellipf besides its definition: K is asked only where m < 1; the special cases that ellipf.rs lists, bit for bit; F(-φ, m) = -F(φ, m) unless m is -∞. Assumes nothing.
-use Rattle.std.specs.Prelude.{◌≡◌, ℕ, zero, suc, ◌-◌, ◌*◌, ◌≤◌, ◌<◌, Bool, not, ◌&&◌, ◌||◌, ℤ, pos, T, eqb, Float}
+use Rattle.std.specs.Prelude.{◌≡◌, ℕ, zero, suc, ◌-◌, ◌*◌, ◌≤◌, ◌<◌, Bool, not, ◌&&◌, ◌||◌, ℤ, pos, T, eqb, Float, Result, Ok, Err}
 use Rattle.std.proofs.Math.Path.{refl, ap}
 use Rattle.std.proofs.Common.{sym, ap₂, ◌∙◌, subst, mul-pos, mod-eq_of_lt, arith, le-ltb, true≢false, lit<}
 use Rattle.std.proofs.Math.Bool.{true, false, cond}
@@ -12,7 +12,9 @@ use Rattle.laws.specs.laws.Exact.{round_of_value}
 use Rattle.laws.specs.Ladder.{held, passed, when◌gives◌else◌}
 use Rattle.answer.specs.Answer.{value_of}
 use Rattle.answer.specs.declared.Answer.{Answer}
-use Rattle.answer.specs.declared.Answer.TheVariants.{One, Pair, Infinite, Refused}
+use Rattle.answer.specs.declared.Refusal.{Refusal}
+use Rattle.answer.specs.declared.Answer.TheVariants.{One, Pair, Infinite}
+use Rattle.answer.specs.declared.Refusal.TheVariants.{Beyond, Unmet}
 use Rattle.angle.specs.Sine.{sine_of}
 use Rattle.angle.specs.Alternating.{square_of, alternating_of, up_to_four}
 use Rattle.angle.specs.Cosine.{cosine_by, cosine_at, cosine_of}
@@ -40,7 +42,7 @@ use Rattle.identities.specs.laws.Signs.{mul-neg, square-neg, plain, round-plain}
 use Rattle.identities.specs.laws.Odd.{same_kind, one-turned, after, rung, handed_odd}
 use Rattle.identities.specs.laws.Angles.{P, quarter, quarter_finite}
 
-abbrev answer : Counted → Answer
+abbrev answer : Counted → Result Answer Refusal
 answer c = c.answer
 
 -- ---- below π/2 the reduction leaves |φ| as it is, with no period term
@@ -97,11 +99,11 @@ answer_of_lem true a b = refl
 answer_of_lem false a b = refl
 
 reduced_answer : (sign size m : Float) → let f = folded_of size in let sine = value_of (sine_of f.angle) in
-    (reduced_of sign size m).answer ≡ (when 1·0 ≤· m ⊗ (sine ⊗ sine) gives Refused 3 else with_periods_of sign m f.mm (recipe_of f.s m sine (value_of (cosine_of f.angle))))
+    (reduced_of sign size m).answer ≡ (when 1·0 ≤· m ⊗ (sine ⊗ sine) gives Err Beyond else with_periods_of sign m f.mm (recipe_of f.s m sine (value_of (cosine_of f.angle))))
 unfolding reduced_of
 reduced_answer sign size m =
     let s = value_of (sine_of (folded_of size).angle) in
-    answer_of_lem (1·0 ≤· m ⊗ (s ⊗ s)) (unasked_of (Refused 3)) _
+    answer_of_lem (1·0 ≤· m ⊗ (s ⊗ s)) (unasked_of (Err Beyond)) _
 
 -- past the tests, where m ≥ 1
 module _ (φ m : Float) (f : T (fits binary64 φ)) (k : (φ ≠· φ) ≡ false) (one : (1·0 ≤· m) ≡ true) (p : pole_of φ m ≡ false) where
@@ -130,7 +132,7 @@ module _ (φ m : Float) (f : T (fits binary64 φ)) (k : (φ ≠· φ) ≡ false)
   without-k q z =
       ap answer (sym (passed _ _ (either (φ ≠· φ) (m ≠· m) k q) (passed _ _ z (passed _ _ p (passed _ _ no_period.0 refl)))))
       ∙ reduced_answer (signum_of φ) (magnitude_of φ) m
-      ∙ ap (λ (f : Fold). cond (1·0 ≤· m ⊗ (value_of (sine_of f.angle) ⊗ value_of (sine_of f.angle))) (Refused 3) (with_periods_of (signum_of φ) m f.mm (recipe_of f.s m (value_of (sine_of f.angle)) (value_of (cosine_of f.angle))))) no_period.1
+      ∙ ap (λ (f : Fold). cond (1·0 ≤· m ⊗ (value_of (sine_of f.angle) ⊗ value_of (sine_of f.angle))) (Err Beyond) (with_periods_of (signum_of φ) m f.mm (recipe_of f.s m (value_of (sine_of f.angle)) (value_of (cosine_of f.angle))))) no_period.1
     where
       either : (a b : Bool) → a ≡ false → b ≡ false → (a || b) ≡ false
       either false b e h = h
@@ -146,22 +148,22 @@ zero_number (fin s n e) z = differs_is (fin s n e)
 neither : (a b : Bool) → a ≡ false → b ≡ false → (a || b) ≡ false
 neither a b e h = ap₂ (λ (a b : Bool). a || b) e h
 
-pub no_parameter : (φ m : Float) → T (finite φ) → (m =· +0) ≡ true → ellipf_of φ m ≡ One φ
+pub no_parameter : (φ m : Float) → T (finite φ) → (m =· +0) ≡ true → ellipf_of φ m ≡ Ok (One φ)
 unfolding ellipf_of counted_of handed_of is_nan
 no_parameter (fin s n e) m f z = ap answer (sym (passed _ _ (neither _ _ (differs_is (fin s n e)) (zero_number m z)) (held _ _ z refl)))
 no_parameter nan m f z = elim f [ ]
 no_parameter (inf _) m f z = elim f [ ]
 
 -- ---- F(±∞, m) = ±∞ where m < 1
-pub at_infinity : (s : Bool) (m : Float) → (m ≠· m) ≡ false → (1·0 ≤· m) ≡ false → ellipf_of (inf s) m ≡ Infinite s
+pub at_infinity : (s : Bool) (m : Float) → (m ≠· m) ≡ false → (1·0 ≤· m) ≡ false → ellipf_of (inf s) m ≡ Ok (Infinite s)
 unfolding ellipf_of counted_of pole_of is_nan
 at_infinity s m k h =
     ap answer (sym (passed _ _ (neither _ _ (differs_is (inf s)) k) refl)
-    ∙ ap (λ (t : Bool). cond (m =· +0) (unasked_of (handed_of (inf s))) (cond (t && (π/2 ≤· magnitude_of (inf s) || 1·0 ≤· m ⊗ (value_of (sine_of (inf s)) ⊗ value_of (sine_of (inf s))))) (unasked_of (Refused 3)) (cond (far_out <· magnitude_of (inf s)) (unasked_of (far_of (signum_of (inf s)) (magnitude_of (inf s)) m)) (reduced_of (signum_of (inf s)) (magnitude_of (inf s)) m)))) h
+    ∙ ap (λ (t : Bool). cond (m =· +0) (unasked_of (handed_of (inf s))) (cond (t && (π/2 ≤· magnitude_of (inf s) || 1·0 ≤· m ⊗ (value_of (sine_of (inf s)) ⊗ value_of (sine_of (inf s))))) (unasked_of (Err Beyond)) (cond (far_out <· magnitude_of (inf s)) (unasked_of (far_of (signum_of (inf s)) (magnitude_of (inf s)) m)) (reduced_of (signum_of (inf s)) (magnitude_of (inf s)) m)))) h
     ∙ ap (λ (a : Float). cond (m =· +0) (unasked_of (handed_of (inf s))) (cond (far_out <· a) (unasked_of (far_of (signum_of (inf s)) a m)) (reduced_of (signum_of (inf s)) a m))) (magnitude_inf s)
     ∙ go (m =· +0) s)
   where
-    go : (z s : Bool) → cond z (unasked_of (handed_of (inf s))) (cond (far_out <· inf false) (unasked_of (far_of (signum_of (inf s)) (inf false) m)) (reduced_of (signum_of (inf s)) (inf false) m)) ≡ unasked_of (Infinite s)
+    go : (z s : Bool) → cond z (unasked_of (handed_of (inf s))) (cond (far_out <· inf false) (unasked_of (far_of (signum_of (inf s)) (inf false) m)) (reduced_of (signum_of (inf s)) (inf false) m)) ≡ unasked_of (Ok (Infinite s))
     go true s = unfold handed_of in refl
     go false true = unfold handed_of far_of signum_of lt eq mul neg of_bits in refl
     go false false = unfold handed_of far_of signum_of lt eq mul neg of_bits in refl
@@ -267,24 +269,24 @@ square-three (inf false) = not_three (inf false) tt
 square-three (fin true n e) = not_three _ (round-plain binary64 (n * up e * (n * up e)) (down e * down e))
 square-three (fin false n e) = not_three _ (round-plain binary64 (n * up e * (n * up e)) (down e * down e))
 
-closed-zero : (met : Bool) (v : Float) → met ≡ false → closed_of -∞ met v ≡ One +0
+closed-zero : (met : Bool) (v : Float) → met ≡ false → closed_of -∞ met v ≡ Ok (One +0)
 unfolding closed_of eq of_bits
 closed-zero false v e = refl
 closed-zero true v e = absurd (true≢false e)
 
-periods_zero : (sign mm : Float) (t : Term) → t.met ≡ false → with_periods_of sign -∞ mm t ≡ One +0
+periods_zero : (sign mm : Float) (t : Term) → t.met ≡ false → with_periods_of sign -∞ mm t ≡ Ok (One +0)
 unfolding with_periods_of
 periods_zero sign mm t h = go (mm ≠· +0)
   where
-    go : (b : Bool) → cond b (closed_of -∞ t.met (sign ⊗ (t.value ⊕ mm ⊗ k_unchecked_of -∞))) (closed_of -∞ t.met (sign ⊗ t.value)) ≡ One +0
+    go : (b : Bool) → cond b (closed_of -∞ t.met (sign ⊗ (t.value ⊕ mm ⊗ k_unchecked_of -∞))) (closed_of -∞ t.met (sign ⊗ t.value)) ≡ Ok (One +0)
     go true = closed-zero t.met _ h
     go false = closed-zero t.met _ h
 
-reduced_zero : (sign size : Float) → (reduced_of sign size -∞).answer ≡ One +0
+reduced_zero : (sign size : Float) → (reduced_of sign size -∞).answer ≡ Ok (One +0)
 unfolding reduced_of
 reduced_zero sign size = ap answer (sym (passed _ _ (square-three (value_of (sine_of (folded_of size).angle))) refl)) ∙ periods_zero sign _ _ (never_met _ _ _)
 
-pub at_minus_infinity : (φ : Float) → (φ ≠· φ) ≡ false → (far_out <· magnitude_of φ) ≡ false → ellipf_of φ -∞ ≡ One +0
+pub at_minus_infinity : (φ : Float) → (φ ≠· φ) ≡ false → (far_out <· magnitude_of φ) ≡ false → ellipf_of φ -∞ ≡ Ok (One +0)
 unfolding ellipf_of counted_of pole_of ne le lt eq of_bits
 at_minus_infinity φ k h = ap answer (sym (passed _ _ (neither _ _ k refl) (passed _ _ h refl))) ∙ reduced_zero (signum_of φ) (magnitude_of φ)
 
@@ -321,12 +323,12 @@ recipe_zero : (t : Bool) (k : ℕ) (d : ℤ) → recipe_of 1·0 (fin t k d) +0 1
 unfolding recipe_of homogeneous infinite_of mul div of_bits
 recipe_zero t k d = ap (λ (z : Float). homogeneous (z ⊗ +0)) (times_zero t k d) ∙ homogeneous_zero t
 
-sine_of_zero : (s : Bool) → sine_of (zero_of s) ≡ One (zero_of s)
+sine_of_zero : (s : Bool) → sine_of (zero_of s) ≡ Ok (One (zero_of s))
 unfolding of_bits
 sine_of_zero true = sine_minus_zero
 sine_of_zero false = sine_zero
 
-cosine_of_zero : cosine_of +0 ≡ One 1·0
+cosine_of_zero : cosine_of +0 ≡ Ok (One 1·0)
 unfolding cosine_of cosine_by cosine_at up_to_four square_of alternating_of of_bits round
 cosine_of_zero = refl
 
@@ -337,7 +339,7 @@ folded_zero = refl
 no_pole : (s t : Bool) (k : ℕ) (d : ℤ) → pole_of (zero_of s) (fin t k d) ≡ false
 unfolding pole_of
 no_pole s t k d =
-    ap (λ (a : Answer). 1·0 ≤· m && (π/2 ≤· magnitude_of (zero_of s) || 1·0 ≤· m ⊗ (value_of a ⊗ value_of a))) (sine_of_zero s)
+    ap (λ (a : Result Answer Refusal). 1·0 ≤· m && (π/2 ≤· magnitude_of (zero_of s) || 1·0 ≤· m ⊗ (value_of a ⊗ value_of a))) (sine_of_zero s)
     ∙ ap₂ (λ (a x : Float). 1·0 ≤· m && (π/2 ≤· a || 1·0 ≤· m ⊗ x)) (magnitude_fin s 0 (pos 0)) (square s)
     ∙ ap (λ (b : Bool). 1·0 ≤· m && b) (ap₂ (λ (a b : Bool). a || b) near-zero (ap (λ (x : Float). 1·0 ≤· x) (times_zero t k d) ∙ under_one t))
     ∙ go (1·0 ≤· m)
@@ -345,7 +347,7 @@ no_pole s t k d =
     m : Float
     m = fin t k d
 
-    square : (s : Bool) → value_of (One (zero_of s)) ⊗ value_of (One (zero_of s)) ≡ +0
+    square : (s : Bool) → value_of (Ok (One (zero_of s))) ⊗ value_of (Ok (One (zero_of s))) ≡ +0
     square true = unfold value_of mul of_bits round in refl
     square false = unfold value_of mul of_bits round in refl
 
@@ -360,7 +362,7 @@ reduced_at-zero : (sign : Float) (t : Bool) (k : ℕ) (d : ℤ) → reduced_of s
 unfolding reduced_of with_periods_of value_of
 reduced_at-zero sign t k d =
     ap (λ (f : Fold). by f (sine_of f.angle) (cosine_of f.angle)) folded_zero
-    ∙ ap₂ (λ (a b : Answer). by (record { angle = +0; mm = +0; s = 1·0 }) a b) sine_zero cosine_of_zero
+    ∙ ap₂ (λ (a b : Result Answer Refusal). by (record { angle = +0; mm = +0; s = 1·0 }) a b) sine_zero cosine_of_zero
     ∙ sym (passed _ _ (ap (λ (x : Float). 1·0 ≤· m ⊗ x) square ∙ ap (λ (x : Float). 1·0 ≤· x) (times_zero t k d) ∙ under_one t) refl)
     ∙ ap (λ (r : Term). record { answer = with_periods_of sign m +0 r; rounds = r.rounds }) (recipe_zero t k d)
     ∙ none
@@ -368,10 +370,10 @@ reduced_at-zero sign t k d =
     m : Float
     m = fin t k d
 
-    by : Fold → Answer → Answer → Counted
+    by : Fold → Result Answer Refusal → Result Answer Refusal → Counted
     by f a b =
         let t = recipe_of f.s m (value_of a) (value_of b) in
-        cond (1·0 ≤· m ⊗ (value_of a ⊗ value_of a)) (unasked_of (Refused 3)) (record { answer = with_periods_of sign m f.mm t; rounds = t.rounds })
+        cond (1·0 ≤· m ⊗ (value_of a ⊗ value_of a)) (unasked_of (Err Beyond)) (record { answer = with_periods_of sign m f.mm t; rounds = t.rounds })
 
     square : +0 ⊗ +0 ≡ +0
     square = unfold mul of_bits round in refl
@@ -379,11 +381,11 @@ reduced_at-zero sign t k d =
     none : unasked_of (with_periods_of sign m +0 (record { value = +0; met = true; rounds = 0 })) ≡ unasked_of (closed_of m true (sign ⊗ +0))
     none = unfold with_periods_of ne eq of_bits in refl
 
-pub at_zero : (s t : Bool) (k : ℕ) (d : ℤ) → ellipf_of (zero_of s) (fin t k d) ≡ One (zero_of s)
+pub at_zero : (s t : Bool) (k : ℕ) (d : ℤ) → ellipf_of (zero_of s) (fin t k d) ≡ Ok (One (zero_of s))
 unfolding ellipf_of counted_of is_nan
 at_zero s t k d =
     ap answer (sym (passed _ _ (neither _ _ (differs_is (zero_of s)) (differs_is m)) refl)
-    ∙ ap₂ (λ (p : Bool) (a : Float). cond (m =· +0) (unasked_of (handed_of (zero_of s))) (cond p (unasked_of (Refused 3)) (cond (far_out <· a) (unasked_of (far_of (signum_of (zero_of s)) a m)) (reduced_of (signum_of (zero_of s)) a m)))) (no_pole s t k d) (magnitude_fin s 0 (pos 0))
+    ∙ ap₂ (λ (p : Bool) (a : Float). cond (m =· +0) (unasked_of (handed_of (zero_of s))) (cond p (unasked_of (Err Beyond)) (cond (far_out <· a) (unasked_of (far_of (signum_of (zero_of s)) a m)) (reduced_of (signum_of (zero_of s)) a m)))) (no_pole s t k d) (magnitude_fin s 0 (pos 0))
     ∙ ap (λ (b : Bool). cond (m =· +0) (unasked_of (handed_of (zero_of s))) (cond b (unasked_of (far_of (signum_of (zero_of s)) (zero_of false) m)) (reduced_of (signum_of (zero_of s)) (zero_of false) m))) near-zero
     ∙ go (m =· +0) (reduced_at-zero (signum_of (zero_of s)) t k d ∙ ap unasked_of (closed s)))
   where
@@ -393,11 +395,11 @@ at_zero s t k d =
     near-zero : (far_out <· zero_of false) ≡ false
     near-zero = unfold lt of_bits in refl
 
-    closed : (s : Bool) → closed_of m true (signum_of (zero_of s) ⊗ +0) ≡ One (zero_of s)
+    closed : (s : Bool) → closed_of m true (signum_of (zero_of s) ⊗ +0) ≡ Ok (One (zero_of s))
     closed true = unfold closed_of settled_of finite_of signum_of infinite_of mul neg eq of_bits round in refl
     closed false = unfold closed_of settled_of finite_of signum_of infinite_of mul neg eq of_bits round in refl
 
-    go : (z : Bool) → reduced_of (signum_of (zero_of s)) +0 m ≡ unasked_of (One (zero_of s)) → cond z (unasked_of (handed_of (zero_of s))) (reduced_of (signum_of (zero_of s)) (zero_of false) m) ≡ unasked_of (One (zero_of s))
+    go : (z : Bool) → reduced_of (signum_of (zero_of s)) +0 m ≡ unasked_of (Ok (One (zero_of s))) → cond z (unasked_of (handed_of (zero_of s))) (reduced_of (signum_of (zero_of s)) (zero_of false) m) ≡ unasked_of (Ok (One (zero_of s)))
     go true h = unfold handed_of in refl
     go false h = unfold of_bits in h
 
@@ -410,11 +412,11 @@ finite_odd (fin s n e) = refl
 
 settled_odd : (met : Bool) (v : Float) → settled_of met (neg v) ≡ turn_of (settled_of met v)
 unfolding settled_of turn_of
-settled_odd met v = rung turn_of (not met) (not met) (Refused 5) (finite_of (neg v)) (Refused 5) (finite_of v) refl refl (finite_odd v)
+settled_odd met v = rung turn_of (not met) (not met) (Err Unmet) (finite_of (neg v)) (Err Unmet) (finite_of v) refl refl (finite_odd v)
 
 closed_settled : (m : Float) (met : Bool) (v : Float) → (m =· -∞) ≡ false → closed_of m met v ≡ settled_of met v
 unfolding closed_of
-closed_settled m met v h = ap (λ (b : Bool). cond (b && (not met || (v ≠· v || infinite_of v))) (One +0) (settled_of met v)) h
+closed_settled m met v h = ap (λ (b : Bool). cond (b && (not met || (v ≠· v || infinite_of v))) (Ok (One +0)) (settled_of met v)) h
 
 closed_odd : (m : Float) (met : Bool) (u v : Float) → (m =· -∞) ≡ false → u ≡ neg v → closed_of m met u ≡ turn_of (closed_of m met v)
 closed_odd m met u v h e = ap (closed_of m met) e ∙ closed_settled m met (neg v) h ∙ settled_odd met v ∙ sym (ap turn_of (closed_settled m met v h))
@@ -439,13 +441,13 @@ far_odd sign size m = rung turn_of (size =· +∞) (size =· +∞) _ _ _ _ refl 
 -- sine is odd, and its square even
 pole_even : (φ m : Float) → pole_of (neg φ) m ≡ pole_of φ m
 unfolding pole_of
-pole_even φ m = ap₂ (λ (a x : Float). 1·0 ≤· m && (π/2 ≤· a || 1·0 ≤· m ⊗ x)) (magnitude_neg φ) (ap (λ (a : Answer). value_of a ⊗ value_of a) (sine_odd φ) ∙ ap (λ (x : Float). x ⊗ x) (value-neg (sine_of φ)) ∙ square-neg binary64 (value_of (sine_of φ)))
+pole_even φ m = ap₂ (λ (a x : Float). 1·0 ≤· m && (π/2 ≤· a || 1·0 ≤· m ⊗ x)) (magnitude_neg φ) (ap (λ (a : Result Answer Refusal). value_of a ⊗ value_of a) (sine_odd φ) ∙ ap (λ (x : Float). x ⊗ x) (value-neg (sine_of φ)) ∙ square-neg binary64 (value_of (sine_of φ)))
   where
-    value-neg : (a : Answer) → value_of (turn_of a) ≡ neg (value_of a)
-    value-neg (One x) = unfold value_of turn_of in refl
-    value-neg (Pair x y) = unfold value_of turn_of in refl
-    value-neg (Infinite s) = unfold value_of turn_of neg in refl
-    value-neg (Refused n) = unfold value_of turn_of neg in refl
+    value-neg : (a : Result Answer Refusal) → value_of (turn_of a) ≡ neg (value_of a)
+    value-neg (Ok (One x)) = unfold value_of turn_of in refl
+    value-neg (Ok (Pair x y)) = unfold value_of turn_of in refl
+    value-neg (Ok (Infinite s)) = unfold value_of turn_of neg in refl
+    value-neg (Err n) = unfold value_of turn_of neg in refl
 
 odd_of : (φ m : Float) → signum_of (neg φ) ≡ neg (signum_of φ) → (m =· -∞) ≡ false → counted_of (neg φ) m ≡ turned_of (counted_of φ m)
 unfolding counted_of turn_of

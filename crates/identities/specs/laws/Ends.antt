@@ -1,5 +1,5 @@
 -- The loop of ellipe.rs ends: from 1 and any y0 above 2 ^ -26 and at most 1 its test fails within 8 rounds, so that the bound on the rounds never shows. Assumes nothing.
-use Rattle.std.specs.Prelude.{◌≡◌, List, [], ◌∷◌, Bool, true, false, not, cond, ◌&&◌, ◌||◌, ℕ, zero, suc, ◌+◌, ◌-◌, ◌*◌, ◌^◌, ◌≤◌, T, ltb, Float}
+use Rattle.std.specs.Prelude.{◌≡◌, List, [], ◌∷◌, Bool, true, false, not, cond, ◌&&◌, ◌||◌, ℕ, zero, suc, ◌+◌, ◌-◌, ◌*◌, ◌^◌, ◌≤◌, T, ltb, Float, Ok}
 use Rattle.std.proofs.Math.Path.{refl}
 use Rattle.std.proofs.Common.{sym, ap, ◌∙◌, subst, arith, lit≤, pow_pos}
 use native.Mathlib.Nat.{le_of_lt, suc-add, zero-add}
@@ -163,8 +163,8 @@ eight m f n h = go (place m f)
     go (refused_2 e) = e _ _ _ _ ∙ sym (e _ _ _ _)
     go (one e) = e _ _ _ _ ∙ sym (e _ _ _ _)
     go (lowest e) = e _ _ _ _ ∙ sym (e _ _ _ _)
-    go (negative k e) = e _ _ _ _ ∙ ap One (negative-same n m h k) ∙ sym (e _ _ _ _)
-    go (unit u e) = e _ _ _ _ ∙ ap One (below-same n m h u) ∙ sym (e _ _ _ _)
+    go (negative k e) = e _ _ _ _ ∙ ap (λ (v : Float). Ok (One v)) (negative-same n m h k) ∙ sym (e _ _ _ _)
+    go (unit u e) = e _ _ _ _ ∙ ap (λ (v : Float). Ok (One v)) (below-same n m h u) ∙ sym (e _ _ _ _)
 
 -- whatever the bound, from 8 rounds on
 pub ellipe_ends : (m : Float) → T (fits binary64 m) → (n : ℕ) → 8 ≤ n → ellipe_within n m ≡ ellipe_of m

@@ -1,5 +1,5 @@
 -- The answer for -φ beside that for φ: what an odd function's tests and arms need. Assumes nothing.
-use Rattle.std.specs.Prelude.{◌≡◌, refl, ℕ, Bool, true, false, not, cond, Float}
+use Rattle.std.specs.Prelude.{◌≡◌, refl, ℕ, Bool, true, false, not, cond, Float, Result}
 use Rattle.std.proofs.Common.{sym, ap, ◌∙◌}
 use Rattle.std.specs.Float.{nan, inf, fin}
 use Rattle.std.specs.Float.Ieee.{neg, is_nan}
@@ -7,6 +7,7 @@ use Rattle.laws.specs.Arithmetic.{◌≠·◌, 1·0}
 use Rattle.laws.specs.laws.Kinds.{differs_is}
 use Rattle.identities.specs.laws.Signs.{neg-neg}
 use Rattle.answer.specs.declared.Answer.{Answer}
+use Rattle.answer.specs.declared.Refusal.{Refusal}
 use Rattle.answer.specs.declared.Counted.{Counted}
 use Rattle.answer.specs.Settle.{handed_of}
 use Rattle.identities.specs.Turned.{turn_of}
@@ -24,8 +25,8 @@ pub one-turned : (b : Bool) → cond (not b) (neg 1·0) 1·0 ≡ neg (cond b (ne
 one-turned true = sym (neg-neg 1·0)
 one-turned false = refl
 
-pub after : (n : ℕ) {a b : Answer} → a ≡ b → ◌≡◌ {A = Counted} (record { answer = a; rounds = n }) (record { answer = b; rounds = n })
-after n e = ap (λ (a : Answer). record { answer = a; rounds = n }) e
+pub after : (n : ℕ) {a b : Result Answer Refusal} → a ≡ b → ◌≡◌ {A = Counted} (record { answer = a; rounds = n }) (record { answer = b; rounds = n })
+after n e = ap (λ (a : Result Answer Refusal). record { answer = a; rounds = n }) e
 
 -- down the tests, arm by arm; `turn` is one of the two
 pub rung : {A : Type 0} (turn : A → A) (t u : Bool) (a b c d : A) → t ≡ u → a ≡ turn c → b ≡ turn d → cond t a b ≡ turn (cond u c d)

@@ -1,41 +1,28 @@
 -- Down the tests of `by_domain` (Decided.antt), one for each return.
-use lib.Ieee.{nan_bits}
 use Rattle.legendre.specs.laws.Decided.{at-nan, over, at_one, at_minus_infinity, where_negative, below_one}
 use Rattle.legendre.specs.Ellipke.{ellipke_of}
 use Rattle.legendre.proofs.ellipke.Goals as goal
 
 pub returns-then-m : goal.returns-then-m
-unfolding ellipke_of nan_bits
+unfolding ellipke_of
 returns-then-m c = at-nan _ _ _ _ _ c.if-m.true
 
 pub returns-then-m-2 : goal.returns-then-m-2
-unfolding ellipke_of nan_bits
+unfolding ellipke_of
 returns-then-m-2 c = over _ _ _ _ _ c.if-m.false c.if-m-2.true
 
-pub float_from_bits-result : goal.float_from_bits-result
-unfolding ellipke_of nan_bits
-float_from_bits-result c = tt
-
 pub returns-then-m-3 : goal.returns-then-m-3
-unfolding ellipke_of nan_bits
+unfolding ellipke_of
 returns-then-m-3 c = at_one _ _ _ _ _ c.if-m.false c.if-m-2.false c.if-m-3.true
 
-pub float_from_bits-t-5 : goal.float_from_bits-t-5
-unfolding ellipke_of nan_bits
-float_from_bits-t-5 c = tt
-
-pub float_from_bits-result-then-m-4 : goal.float_from_bits-result-then-m-4
-unfolding ellipke_of nan_bits
-float_from_bits-result-then-m-4 c = tt
-
 pub returns-then-m-4 : goal.returns-then-m-4
-unfolding ellipke_of nan_bits
+unfolding ellipke_of
 returns-then-m-4 c = at_minus_infinity _ _ _ _ _ c.if-m.false c.if-m-2.false c.if-m-3.false c.if-m-4.true
 
 pub returns-then-m-5 : goal.returns-then-m-5
-unfolding ellipke_of nan_bits
+unfolding ellipke_of
 returns-then-m-5 c = where_negative _ _ _ _ _ _ c.if-m.false c.if-m-2.false c.if-m-3.false c.if-m-4.false c.if-m-5.true (rw (c.pair.ensures, c.both_negative.ensures))
 
 pub returns : goal.returns
-unfolding ellipke_of nan_bits
+unfolding ellipke_of
 returns c = below_one _ _ _ _ _ _ c.if-m.false c.if-m-2.false c.if-m-3.false c.if-m-4.false c.if-m-5.false (rw (c.pair-2.ensures, c.both_below_one.ensures))

@@ -1,5 +1,5 @@
 -- Down the tests of `by_domain` and of `below_one_of`: what they are where one holds. Assumes nothing.
-use Rattle.std.specs.Prelude.{◌≡◌, Bool, cond, ℕ, ◌≤◌, ◌<◌, T, ltb, Float}
+use Rattle.std.specs.Prelude.{◌≡◌, Bool, cond, ℕ, ◌≤◌, ◌<◌, T, ltb, Float, Result, Err}
 use Rattle.std.proofs.Math.Path.{refl}
 use Rattle.std.proofs.Math.Bool.{true, false}
 use Rattle.std.proofs.Common.{lt-ltb, le-ltb, ltb→lt}
@@ -7,16 +7,17 @@ use Rattle.laws.specs.Arithmetic.{◌⊖◌, ◌<·◌, ◌=·◌, ◌≠·◌, 
 use Rattle.laws.specs.Ladder.{held, passed}
 use Rattle.root.specs.Root.{root_of}
 use Rattle.answer.specs.declared.Answer.{Answer}
-use Rattle.answer.specs.declared.Answer.TheVariants.{Refused}
+use Rattle.answer.specs.declared.Refusal.{Refusal}
+use Rattle.answer.specs.declared.Refusal.TheVariants.{NotANumber, AboveOne}
 use Rattle.legendre.specs.Domain.{by_domain, below_one_of}
 use Rattle.pieces.specs.Piece.{piece_of, centre_of}
 
-module _ (m : Float) (one minusInfinity negative belowOne : Answer) where
-  pub at-nan : m ≠· m ≡ true → Refused 1 ≡ by_domain m one minusInfinity negative belowOne
+module _ (m : Float) (one minusInfinity negative belowOne : Result Answer Refusal) where
+  pub at-nan : m ≠· m ≡ true → Err NotANumber ≡ by_domain m one minusInfinity negative belowOne
   unfolding by_domain
   at-nan h = held _ _ h refl
 
-  pub over : m ≠· m ≡ false → 1·0 <· m ≡ true → Refused 2 ≡ by_domain m one minusInfinity negative belowOne
+  pub over : m ≠· m ≡ false → 1·0 <· m ≡ true → Err AboveOne ≡ by_domain m one minusInfinity negative belowOne
   unfolding by_domain
   over a h = passed _ _ a (held _ _ h refl)
 
@@ -28,11 +29,11 @@ module _ (m : Float) (one minusInfinity negative belowOne : Answer) where
   unfolding by_domain
   at_minus_infinity a b c h = passed _ _ a (passed _ _ b (passed _ _ c (held _ _ h refl)))
 
-  pub where_negative : (r : Answer) → m ≠· m ≡ false → 1·0 <· m ≡ false → m =· 1·0 ≡ false → m =· -∞ ≡ false → m <· +0 ≡ true → r ≡ negative → r ≡ by_domain m one minusInfinity negative belowOne
+  pub where_negative : (r : Result Answer Refusal) → m ≠· m ≡ false → 1·0 <· m ≡ false → m =· 1·0 ≡ false → m =· -∞ ≡ false → m <· +0 ≡ true → r ≡ negative → r ≡ by_domain m one minusInfinity negative belowOne
   unfolding by_domain
   where_negative r a b c d h e = passed _ _ a (passed _ _ b (passed _ _ c (passed _ _ d (held _ _ h e))))
 
-  pub below_one : (r : Answer) → m ≠· m ≡ false → 1·0 <· m ≡ false → m =· 1·0 ≡ false → m =· -∞ ≡ false → m <· +0 ≡ false → r ≡ belowOne → r ≡ by_domain m one minusInfinity negative belowOne
+  pub below_one : (r : Result Answer Refusal) → m ≠· m ≡ false → 1·0 <· m ≡ false → m =· 1·0 ≡ false → m =· -∞ ≡ false → m <· +0 ≡ false → r ≡ belowOne → r ≡ by_domain m one minusInfinity negative belowOne
   unfolding by_domain
   below_one r a b c d h e = passed _ _ a (passed _ _ b (passed _ _ c (passed _ _ d (passed _ _ h e))))
 

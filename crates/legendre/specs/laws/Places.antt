@@ -1,5 +1,5 @@
 -- Where an f64 falls in `by_domain`, and what is known of it there. Assumes nothing.
-use Rattle.std.specs.Prelude.{◌≡◌, refl, Bool, true, false, not, ◌&&◌, ℕ, zero, suc, ◌+◌, ◌*◌, ◌^◌, ◌≤◌, ◌<◌, ℤ, T, eqb, Float}
+use Rattle.std.specs.Prelude.{◌≡◌, refl, Bool, true, false, not, ◌&&◌, ℕ, zero, suc, ◌+◌, ◌*◌, ◌^◌, ◌≤◌, ◌<◌, ℤ, T, eqb, Float, Result, Err}
 use Rattle.std.proofs.Common.{sym, ap, ◌∙◌, subst, true≢false, arith, ltb→lt, nltb→le, pow_pos}
 use native.Mathlib.Nat.{le_of_eq, le_of_lt, lt_of_lt_of_le, zero-mul, mul_comm, mul-pos, mul-lt-mul_of_pos_right, lt_of_mul-lt-mul_right}
 use Rattle.std.proofs.Math.Arith.{lt_of_le-ne}
@@ -12,7 +12,8 @@ use Rattle.std.specs.Float.Ieee.Fits.{down_pos, and_i, eq→eqb}
 use Rattle.laws.specs.Arithmetic.{◌<·◌, ◌=·◌, ◌≠·◌, +0, -∞, 1·0}
 use Rattle.laws.specs.laws.Flags.{holds, fails}
 use Rattle.answer.specs.declared.Answer.{Answer}
-use Rattle.answer.specs.declared.Answer.TheVariants.{Refused}
+use Rattle.answer.specs.declared.Refusal.{Refusal}
+use Rattle.answer.specs.declared.Refusal.TheVariants.{NotANumber, AboveOne}
 use Rattle.laws.specs.laws.Units.{units_of_lem}
 use Rattle.laws.specs.laws.Bounds.{Small}
 use Rattle.legendre.specs.Domain.{by_domain}
@@ -37,12 +38,12 @@ pub unit_small : {m : Float} → Unit m → Small 1074 m
 unit_small u = record { sign = u.sign; units = u.units; value = u.value; most = le_of_lt u.below }
 
 pub data Place (m : Float) : Type 0 where
-  refused_1 : ((a b c d : Answer) → by_domain m a b c d ≡ Refused 1) → Place m
-  refused_2 : ((a b c d : Answer) → by_domain m a b c d ≡ Refused 2) → Place m
-  one : ((a b c d : Answer) → by_domain m a b c d ≡ a) → Place m
-  lowest : ((a b c d : Answer) → by_domain m a b c d ≡ b) → Place m
-  negative : Negative m → ((a b c d : Answer) → by_domain m a b c d ≡ c) → Place m
-  unit : Unit m → ((a b c d : Answer) → by_domain m a b c d ≡ d) → Place m
+  refused_1 : ((a b c d : Result Answer Refusal) → by_domain m a b c d ≡ Err NotANumber) → Place m
+  refused_2 : ((a b c d : Result Answer Refusal) → by_domain m a b c d ≡ Err AboveOne) → Place m
+  one : ((a b c d : Result Answer Refusal) → by_domain m a b c d ≡ a) → Place m
+  lowest : ((a b c d : Result Answer Refusal) → by_domain m a b c d ≡ b) → Place m
+  negative : Negative m → ((a b c d : Result Answer Refusal) → by_domain m a b c d ≡ c) → Place m
+  unit : Unit m → ((a b c d : Result Answer Refusal) → by_domain m a b c d ≡ d) → Place m
 
 -- ---- the tests on a finite value
 itself : (s : Bool) (m : ℕ) (e : ℤ) → fin s m e ≠· fin s m e ≡ false

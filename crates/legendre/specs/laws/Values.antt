@@ -1,5 +1,5 @@
 -- The three functions keep Promises.antt. Assumes nothing.
-use Rattle.std.specs.Prelude.{◌≡◌, Bool, true, false, cond, ℕ, ◌^◌, ◌<◌, T, Float}
+use Rattle.std.specs.Prelude.{◌≡◌, Bool, true, false, cond, ℕ, ◌^◌, ◌<◌, T, Float, Result, Err}
 use Rattle.std.proofs.Math.Path.{refl}
 use Rattle.std.proofs.Common.{sym, subst, lit<}
 use Rattle.std.proofs.Math.Dec.{lit≤}
@@ -14,7 +14,8 @@ use Rattle.answer.specs.Numbers.{stored}
 use Rattle.answer.specs.Sound.{Number, Value, Sound}
 use Rattle.answer.specs.laws.Sound.{number-value}
 use Rattle.answer.specs.declared.Answer.{Answer}
-use Rattle.answer.specs.declared.Answer.TheVariants.{Refused}
+use Rattle.answer.specs.declared.Refusal.{Refusal}
+use Rattle.answer.specs.declared.Refusal.TheVariants.{NotANumber, AboveOne}
 use Rattle.legendre.specs.declared.ke.Both.{Both}
 use Rattle.legendre.specs.Domain.{by_domain}
 use Rattle.pieces.specs.Piece.{piece_of, centre_of, k_piece_of, e_piece_of}
@@ -153,7 +154,7 @@ module _ (m : Float) (n : Negative m) where
       go false t = scaled (both_below_one_of m1) (both_below m1 (m1_unit m n t))
 
 -- ---- every m
-sound_domain : (m : Float) → T (fits binary64 m) → (a b c d : Answer) → Sound a → Sound b → (Negative m → Sound c) → (Unit m → Sound d) → Sound (by_domain m a b c d)
+sound_domain : (m : Float) → T (fits binary64 m) → (a b c d : Result Answer Refusal) → Sound a → Sound b → (Negative m → Sound c) → (Unit m → Sound d) → Sound (by_domain m a b c d)
 unfolding Sound stored
 sound_domain m f a b c d p q r s = go (place m f)
   where
@@ -165,11 +166,11 @@ sound_domain m f a b c d p q r s = go (place m f)
     go (negative n e) = subst Sound (sym (e a b c d)) (r n)
     go (unit u e) = subst Sound (sym (e a b c d)) (s u)
 
-refusal_domain : (m : Float) (a b c d : Answer) → refusal_of a ≡ 0 → refusal_of b ≡ 0 → refusal_of c ≡ 0 → refusal_of d ≡ 0 → refusal_of (by_domain m a b c d) ≡ refused_of m
+refusal_domain : (m : Float) (a b c d : Result Answer Refusal) → refusal_of a ≡ 0 → refusal_of b ≡ 0 → refusal_of c ≡ 0 → refusal_of d ≡ 0 → refusal_of (by_domain m a b c d) ≡ refused_of m
 unfolding by_domain refused_of refusal_of
 refusal_domain m a b c d p q r s = go (m ≠· m) (1·0 <· m) (m =· 1·0) (m =· -∞) (m <· +0)
   where
-    go : (t u v w x : Bool) → refusal_of (cond t (Refused 1) (cond u (Refused 2) (cond v a (cond w b (cond x c d))))) ≡ cond t 1 (cond u 2 0)
+    go : (t u v w x : Bool) → refusal_of (cond t (Err NotANumber) (cond u (Err AboveOne) (cond v a (cond w b (cond x c d))))) ≡ cond t 1 (cond u 2 0)
     go true u v w x = refl
     go false true v w x = refl
     go false false true w x = p

@@ -1,6 +1,6 @@
 -- Where ellippi's weight is formed as before, an answer is the one from before the change for far_out arguments, or refusal 6. Assumes nothing.
 use Prim.Native.Nat.{ℕ, zero, suc, ◌+◌}
-use Rattle.std.specs.Prelude.{◌≡◌, Bool, cond, not, ◌||◌, ◌&&◌, T, Float}
+use Rattle.std.specs.Prelude.{◌≡◌, Bool, cond, not, ◌||◌, ◌&&◌, T, Float, Result, Err}
 use Rattle.std.proofs.Math.Path.{refl, subst}
 use Rattle.std.proofs.Common.{sym, ap, ◌∙◌, inl, inr, true≢false, arith}
 use Rattle.std.proofs.Math.Bool.{true, false}
@@ -15,10 +15,12 @@ use Rattle.carlson.specs.declared.Outcome.{Outcome}
 use Rattle.rf.specs.Rf.{rf_of}
 use Rattle.rj.specs.declared.State as RjState
 use Rattle.rj.specs.Rj as Rj
+use Rattle.answer.specs.Numbers.{number}
 use Rattle.answer.specs.Answer.{refusal_of, value_of}
 use Rattle.answer.specs.Settle.{finite_of, settled_of}
 use Rattle.answer.specs.declared.Answer.{Answer}
-use Rattle.answer.specs.declared.Answer.TheVariants.{Refused}
+use Rattle.answer.specs.declared.Refusal.{Refusal}
+use Rattle.answer.specs.declared.Refusal.TheVariants.{NotFinite}
 use Rattle.answer.specs.declared.Counted.{Counted}
 use Rattle.answer.specs.declared.Term.{Term}
 use Rattle.legendre.specs.Ellipk.{ellipk_of}
@@ -168,10 +170,10 @@ ellippi_kept n m f64 e =
     record { answer = settled_kept k.met k.value; rounds = k.rounds })))))
 
 -- an answer that is no refusal is no 6
-answered : {before now : Answer} → KeptAnswer before now → refusal_of now ≡ 0 → now ≡ before
+answered : {before now : Result Answer Refusal} → KeptAnswer before now → refusal_of now ≡ 0 → now ≡ before
 unfolding refusal_of
 answered (inl h) z = h
-answered (inr h) z = let e : refusal_of (Refused 6) ≡ 0 = sym (ap refusal_of h) ∙ z in absurd (let z : ⊥ = omega arith in z)
+answered (inr h) z = let e : number NotFinite ≡ 0 = sym (ap refusal_of h) ∙ z in absurd (let z : ⊥ = omega arith in z)
 
 pub kept-or_refused : KeptOrRefused
 unfolding Ellippi.ellippi_of

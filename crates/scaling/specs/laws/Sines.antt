@@ -1,5 +1,5 @@
 -- How large and how small the computed sine and cosine of an angle within 4 can be, crudely: sizes that keep what is made of them moderate. Assumes nothing.
-use Rattle.std.specs.Prelude.{◌≡◌, refl, ◌⊎◌, Bool, ℕ, zero, suc, ◌+◌, ◌*◌, ◌/◌, ◌^◌, ◌≤◌, ◌<◌, T, ltb, Float}
+use Rattle.std.specs.Prelude.{◌≡◌, refl, ◌⊎◌, Bool, ℕ, zero, suc, ◌+◌, ◌*◌, ◌/◌, ◌^◌, ◌≤◌, ◌<◌, T, ltb, Float, Result}
 use Rattle.std.proofs.Common.{sym, ap, ◌∙◌, subst, inl, inr, le_trans, le_of_eq, zero-lt-suc, mul_comm, mul_assoc, mul_left_comm, mul_right_comm, mul-pos, mul-le-mul, mul-le-mul_left, mul-le-mul_right, le_of_mul-le-mul_right, div-mul-le_self, arith, lit≤, lit<, pow-add, pow_pos, pow_mono}
 use Rattle.std.proofs.Math.Nat.{div-le_of_le-mul}
 use Rattle.std.specs.Float.{nan, inf, fin, binary64}
@@ -14,6 +14,7 @@ use Rattle.laws.specs.laws.Sizes.{grid_most, grid_least, below_overflow}
 use Rattle.whole.specs.Whole.{magnitude_of}
 use Rattle.answer.specs.Answer.{value_of}
 use Rattle.answer.specs.declared.Answer.{Answer}
+use Rattle.answer.specs.declared.Refusal.{Refusal}
 use Rattle.bounds.specs.Close.{distance_of}
 use Rattle.angle.specs.Alternating.{square_of, alternating_of}
 use Rattle.angle.specs.Sine.{sine_at, sine_of}
@@ -170,13 +171,13 @@ pub cosine_within : (x : Float) → T (magnitude_of x ≤· 4·0) → (t : Bool)
 unfolding value_of
 cosine_within nan h = absurd (in_reach nan h)
 cosine_within (inf s) h = absurd (in_reach (inf s) h)
-cosine_within (fin s m e) h = let l = in_reach-size s m e h in subst (λ (a : Answer). (t : Bool) × Ranged t 1014 1158 (value_of a)) (sym (cosine_answers s m e l)) (cosine_sized s (m * up e) (down e) l)
+cosine_within (fin s m e) h = let l = in_reach-size s m e h in subst (λ (a : Result Answer Refusal). (t : Bool) × Ranged t 1014 1158 (value_of a)) (sym (cosine_answers s m e l)) (cosine_sized s (m * up e) (down e) l)
 
 pub sine_within : (x : Float) → T (magnitude_of x ≤· 4·0) → Small 1156 (value_of (sine_of x))
 unfolding value_of
 sine_within nan h = absurd (in_reach nan h)
 sine_within (inf s) h = absurd (in_reach (inf s) h)
-sine_within (fin s m e) h = let l = in_reach-size s m e h in subst (λ (a : Answer). Small 1156 (value_of a)) (sym (sine_answers s m e l)) (sine_sized s (m * up e) (down e) (down_pos e) l)
+sine_within (fin s m e) h = let l = in_reach-size s m e h in subst (λ (a : Result Answer Refusal). Small 1156 (value_of a)) (sym (sine_answers s m e l)) (sine_sized s (m * up e) (down e) (down_pos e) l)
 
 -- the same of an angle in units
 pub sine_square-within : (x : Float) (t : Bool) (n : ℕ) → HasValue x t n (2 ^ 1074) → n ≤ 7 * 2 ^ 1072 → 2 ^ 1041 ≤ n → Within 1004 1238 (value_of (sine_of x) ⊗ value_of (sine_of x))
@@ -188,4 +189,4 @@ sine_square-within (fin s m e) t n v h l =
     let q = down e in
     let a : p * 4 ≤ 7 * q = le_of_mul-le-mul_right (le_trans (le_of_eq (mul_assoc p 4 (2 ^ 1072) ∙ v.1)) (le_trans (mul-le-mul_right q h) (le_of_eq (mul_right_comm 7 (2 ^ 1072) q)))) (pow_pos 1072) in
     let b : q ≤ p * 2 ^ 33 = least_back p q n (2 ^ 33) (2 ^ 1041) (2 ^ 1074) (pow_pos 1041) refl v.1 l in
-    subst (λ (r : Answer). Within 1004 1238 (value_of r ⊗ value_of r)) (sym (sine_answers s m e (wide p q a))) (sine_square s p q (down_pos e) a b)
+    subst (λ (r : Result Answer Refusal). Within 1004 1238 (value_of r ⊗ value_of r)) (sym (sine_answers s m e (wide p q a))) (sine_square s p q (down_pos e) a b)

@@ -1,5 +1,5 @@
 -- What the sheet needs of every function, by one law over the function number. Assumes nothing.
-use Rattle.std.specs.Prelude.{◌≡◌, refl, Bool, true, false, not, cond, ℕ, suc, ◌≤◌, ◌<◌, T, leb, eqb}
+use Rattle.std.specs.Prelude.{◌≡◌, refl, Bool, true, false, not, cond, ℕ, suc, ◌≤◌, ◌<◌, T, leb, eqb, Result, Ok, Err}
 use Rattle.std.proofs.Common.{sym, ap, subst, zero-le, not-le_of_lt, arith, ne_eqb, leb→le, lit≤}
 use Rattle.std.proofs.lemmas.Bool.{eqb-false}
 use Rattle.std.proofs.Math.Dec.{nleb→lt}
@@ -13,9 +13,11 @@ use Rattle.answer.specs.Sound.{Sound}
 use Rattle.answer.specs.laws.Sound as sound
 use Rattle.answer.specs.laws.Fair.{numeric, fair_sound}
 use Rattle.answer.specs.declared.Answer.{Answer}
+use Rattle.answer.specs.declared.Refusal.{Refusal}
 use Rattle.answer.specs.declared.Counted.{Counted}
 use Rattle.answer.specs.Settle.{unasked_of}
-use Rattle.answer.specs.declared.Answer.TheVariants.{One, Pair, Infinite, Refused}
+use Rattle.answer.specs.declared.Answer.TheVariants.{One, Pair, Infinite}
+use Rattle.answer.specs.declared.Refusal.TheVariants.{NoSuchFunction}
 use Rattle.legendre.specs.laws.Values.{ellipk_answers, ellipe_answers, ellipke_answers}
 use Rattle.ellippi.specs.laws.Values.{ellippi_may, ellippi_fair}
 use Rattle.ellipeinc.specs.laws.Values.{ellipeinc_may, ellipeinc_fair}
@@ -25,16 +27,16 @@ use Rattle.ellipeinc.specs.Ellipeinc.{ellipeinc_of}
 use Rattle.ellipf.specs.Ellipf.{ellipf_of}
 use Rattle.sheet.specs.Functions.{counted_of, evaluate_of}
 
-zero-sound : Sound (One +0)
+zero-sound : Sound (Ok (One +0))
 unfolding Sound of_bits
 zero-sound = record { bounded = tt; fit = of_bits-fits binary64 0 }
 
-value-fits : (a : Answer) → Sound a → T (fits binary64 (value_of a))
+value-fits : (a : Result Answer Refusal) → Sound a → T (fits binary64 (value_of a))
 unfolding Sound value_of fits
-value-fits (One x) s = s.fit
-value-fits (Pair x y) s = s.0.fit
-value-fits (Infinite t) s = tt
-value-fits (Refused n) s = tt
+value-fits (Ok (One x)) s = s.fit
+value-fits (Ok (Pair x y)) s = s.0.fit
+value-fits (Ok (Infinite t)) s = tt
+value-fits (Err n) s = tt
 
 -- down the numbers: what the function of number k answers, and what is left above it
 rung : (f k : ℕ) (a b : Counted) → k ≤ f → Sound a.answer → (suc k ≤ f → Sound b.answer) → Sound (cond (eqb f k) a b).answer
@@ -64,16 +66,16 @@ evaluated_sound f a b c h =
     absurd (not-le_of_lt l7 h))))))))
 
 -- and a number above the last has none
-pub counted-beyond : (f a b c : ℕ) → last < f → counted_of f a b c ≡ unasked_of (Refused 9)
+pub counted-beyond : (f a b c : ℕ) → last < f → counted_of f a b c ≡ unasked_of (Err NoSuchFunction)
 unfolding counted_of
 counted-beyond f a b c h = rw (ne_eqb f 0 (λ e. omega arith), ne_eqb f 1 (λ e. omega arith), ne_eqb f 2 (λ e. omega arith), ne_eqb f 3 (λ e. omega arith), ne_eqb f 4 (λ e. omega arith), ne_eqb f 5 (λ e. omega arith), ne_eqb f 6 (λ e. omega arith))
 
-pub beyond : (f a b c : ℕ) → last < f → evaluate_of f a b c ≡ Refused 9
+pub beyond : (f a b c : ℕ) → last < f → evaluate_of f a b c ≡ Err NoSuchFunction
 unfolding evaluate_of
 beyond f a b c h = ap (λ (r : Counted). r.answer) (counted-beyond f a b c h)
 
 -- what holds of every sound answer and of refusal 9 holds of every evaluation
-each : (P : Answer → Type 0) → ((z : Answer) → Sound z → P z) → P (Refused 9) → (f a b c : ℕ) → P (evaluate_of f a b c)
+each : (P : Result Answer Refusal → Type 0) → ((z : Result Answer Refusal) → Sound z → P z) → P (Err NoSuchFunction) → (f a b c : ℕ) → P (evaluate_of f a b c)
 each P p q f a b c = go (leb f last) (leb→le f last) (nleb→lt f last)
   where
     go : (t : Bool) → (T t → f ≤ last) → (T (not t) → last < f) → P (evaluate_of f a b c)

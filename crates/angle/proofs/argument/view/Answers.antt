@@ -1,21 +1,14 @@
 -- `view` meets its contract: the tests tell which x are refused, and the parts of any other are those of a number at most 4 (`Reaching`).
-use native.Mathlib.Omega.{arith}
 use lib.Ieee.{of_bits, neg}
-use Rattle.angle.proofs.Reaching.{refused_nan, refused_far, bounds, viewed, viewed_refused}
+use Rattle.angle.proofs.Reaching.{refused_nan, refused_far, bounds, viewed}
 use Rattle.angle.proofs.argument.view.Goals as goal
 
 pub returns-then-x : goal.returns-then-x
-returns-then-x c =
-    let x = c.args.x in
-    let r = c.refused.result in
-    viewed_refused x 1 r.digits r.exponent r.square r.negative (omega arith) (λ f. refused_nan f x c.if-x.true) r.refusal c.refused.ensures
+returns-then-x c = λ f. refused_nan f c.args.x c.if-x.true
 
 pub returns-then-x-2 : goal.returns-then-x-2
 unfolding of_bits neg
-returns-then-x-2 c =
-    let x = c.args.x in
-    let r = c.refused-then-x-2.result in
-    viewed_refused x 12 r.digits r.exponent r.square r.negative (omega arith) (λ f. refused_far f x c.if-x.false c.if-x-2.true) r.refusal c.refused-then-x-2.ensures
+returns-then-x-2 c = λ f. refused_far f c.args.x c.if-x.false c.if-x-2.true
 
 pub square-requires : goal.square-requires
 unfolding of_bits neg

@@ -1,6 +1,6 @@
 -- Two sheet files compared (02, [5]): what is said of them. s is the old sheet, t the new one. Definitions only.
-use Rattle.std.specs.Prelude.{◌≡◌, ℕ, true, false, List, eqb, ℤ}
-use Rattle.laws.specs.Ladder.{when◌gives◌else◌}
+use Rattle.std.specs.Prelude.{◌≡◌, ℕ, true, false, List, Result, Ok, Err, ⊤, ℤ}
+use Rattle.difference.specs.declared.Stop.{Stop}
 use Rattle.difference.specs.Difference.{stop_of}
 use Rattle.differing.specs.Differing.{text_of, refused_text}
 use Rattle.files.specs.Calls.{Called, words, Counts}
@@ -11,10 +11,12 @@ use Rattle.files.specs.declared.sending.Output.{Output}
 use Rattle.files.specs.Output.{output_of, Wrote}
 
 -- of two sheets: a line for each row that differs, and the end; nothing is printed before every test has passed. Of what is refused, that line alone, with the file's name
+abbrev pub said_of : List ℕ → List ℕ → List ℕ → List ℕ → Result ⊤ Stop → List ℕ
+said_of old new s t (Ok x) = text_of s t
+said_of old new s t (Err q) = refused_text old new q
+
 unfoldable pub compared_text : List ℕ → List ℕ → List ℕ → List ℕ → List ℕ
-compared_text old new s t =
-    when eqb (stop_of s t).refusal 0 gives text_of s t else
-    refused_text old new (stop_of s t)
+compared_text old new s t = said_of old new s t (stop_of s t)
 
 -- of two files: both are read before either is tested, and one that can't be read is said to be that, the old one first
 pub data Compared (old new text : List ℕ) : Type 0 where

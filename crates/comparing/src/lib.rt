@@ -1,12 +1,13 @@
 // Two sheet files compared: all that legdiff does (02, [5]). Lines are sent one after the other from one small buffer, so memory does not grow with them.
 #![tactic(auto)]
 
+ghost use Rattle.std.specs.Prelude.{◌≡◌};
 ghost use Rattle.loading.specs.Notes.{cannot_read};
 ghost use Rattle.files.specs.Output.{Wrote};
-ghost use Rattle.differing.specs.Differing.{line_of, lines_of, end_of, refused_text};
+ghost use Rattle.differing.specs.Differing.{line_of, lines_of, end_of, name_in, refused_text};
 ghost use Rattle.comparing.specs.Comparing.{compared_text, Done, Ran};
 
-use difference::Stop;
+use difference::{Side, Stop};
 use differing::LINE;
 use files::{Output, WORD};
 use loading::MOST;
@@ -25,10 +26,8 @@ fn send_lines(rt: &HostRuntime, out: Output, old: &[u8], new: &[u8], rows: u32) 
     ensures { Wrote out (lines_of old.now new.now rows) result }
 {
     let mut sent = out;
-    let mut i: u32 = 0;
-    while i < rows {
+    for i in 0..rows {
         sent = send_line(rt, sent, old, new, i);
-        i += 1;
     }
     sent
 }
@@ -42,6 +41,17 @@ fn send_end(rt: &HostRuntime, out: Output, old: &[u8], new: &[u8]) -> Output
     files::put(rt, out, &line[0..n])
 }
 
+// The name of the file that the refusal is about; empty where it is about both.
+fn name_in<'a>(stop: Stop, old: &'a [u8], new: &'a [u8]) -> &'a [u8]
+    ensures { result.now ≡ name_in old.now new.now stop }
+{
+    match stop {
+        Stop::NotASheet(Side::Old) | Stop::Damaged(Side::Old, _) => old,
+        Stop::NotASheet(Side::New) | Stop::Damaged(Side::New, _) => new,
+        Stop::Unequal => b"",
+    }
+}
+
 // Why the sheets are not compared, and the name of the file that it is about.
 fn send_refusal(rt: &HostRuntime, out: Output, old: &[u8], new: &[u8], stop: Stop) -> Output
     ensures { Wrote out (refused_text old.now new.now stop) result }
@@ -49,13 +59,8 @@ fn send_refusal(rt: &HostRuntime, out: Output, old: &[u8], new: &[u8], stop: Sto
     let mut line = [0u8; LINE];
     let n = differing::put_stop(&mut line, stop);
     let sent = files::put(rt, out, &line[0..n]);
-    if stop.sheet == 1 {
-        return files::put(rt, files::put(rt, sent, old), b"\n");
-    }
-    if stop.sheet == 2 {
-        return files::put(rt, files::put(rt, sent, new), b"\n");
-    }
-    files::put(rt, sent, b"\n")
+    let named = files::put(rt, sent, name_in(stop, old, new));
+    files::put(rt, named, b"\n")
 }
 
 // Two sheets, or what refuses them: nothing is sent before every test has passed.
@@ -69,8 +74,7 @@ fn compare(
 ) -> Output
     ensures { Wrote out (compared_text first.now second.now old.now new.now) result }
 {
-    let stop = difference::stopped(old, new);
-    if stop.refusal != 0 {
+    if let Err(stop) = difference::stopped(old, new) {
         return send_refusal(rt, out, first, second, stop);
     }
     let rows = ledger::rows_in(old) as u32;

@@ -1,13 +1,15 @@
 -- Limbs taken from limbs, from the lowest up; and the highest digit turned over. Assumes nothing.
 use mathlib.Core.Path.{◌≡◌, refl, ap, ◌∙◌, sym, subst}
+use mathlib.Core.Bool.{Bool, true, false}
 use mathlib.Core.List.{List}
-use Prim.Native.Nat.{ℕ, ◌+◌, ◌-◌, ◌*◌, ◌≤◌, ◌<◌}
+use Prim.Native.Nat.{ℕ, ◌+◌, ◌-◌, ◌*◌, ◌%◌, ◌≤◌, ◌<◌}
 use native.Mathlib.Nat.{mul-le-mul_left, le_of_eq, le_trans, mul-add}
 use native.Mathlib.Omega.{arith}
 use lib.Dec.{lit≤, lit<}
 use lib.ListN.{length, take, get_or, set, length-set, get_or-eq_default}
 use lib.Seq.{take_all, length-take-le, get_or-take}
 use mathlib.Core.Logic.{inl, inr}
+use Rattle.std.specs.Int.{from_bool}
 use Rattle.laws.specs.laws.Flags.{lt-or-le}
 use Rattle.total.specs.Total.{val, N, Half}
 use Rattle.total.specs.Carry.{W}
@@ -26,39 +28,62 @@ under w w' o z e h k =
     let m : w * (z + 1) ≤ w * 0x1_0000_0000_0000_0000 = mul-le-mul_left w (let g : z + 1 ≤ 0x1_0000_0000_0000_0000 = omega arith in g) in
     rw e (omega (arith, m))
 
--- out holds the first i limbs of a less b, and c was borrowed from the next
-pub record Minus (a b out : List ℕ) (c i : ℕ) : Type 0 where
+one_at_most : (b : Bool) → from_bool b ≤ 1
+one_at_most true = lit≤ tt
+one_at_most false = lit≤ tt
+
+-- out holds the first i limbs of a less b, and c says whether 1 was borrowed from the next
+pub record Minus (a b out : List ℕ) (c : Bool) (i : ℕ) : Type 0 where
   pub size : length out ≡ 34
-  pub sum : val (take i out) + val (take i b) ≡ val (take i a) + W i * c
+  pub sum : val (take i out) + val (take i b) ≡ val (take i a) + W i * from_bool c
   pub fits : val (take i out) < W i
-  pub owed : c ≤ 1
 
-pub minus_none : (a b : List ℕ) → length a ≡ 34 → Minus a b a 0 0
+pub minus_none : (a b : List ℕ) → length a ≡ 34 → Minus a b a false 0
 unfolding val W
-minus_none a b h = record { size = h; sum = refl; fits = lit< tt; owed = lit≤ tt }
+minus_none a b h = record { size = h; sum = refl; fits = lit< tt }
 
-pub minus_next : (a b out : List ℕ) (c i z d : ℕ) → length a ≡ 34 → length b ≡ 34 → i < 34 → Minus a b out c i → z + get_or b i 0 + c ≡ get_or a i 0 + 0x1_0000_0000_0000_0000 * d → z < 0x1_0000_0000_0000_0000 → d ≤ 1
-    → Minus a b (set out i z) d (i + 1)
-minus_next a b out c i z d ha hb h l e f g =
+pub minus_next : (a b out : List ℕ) (c : Bool) (i z : ℕ) (d : Bool) → length a ≡ 34 → length b ≡ 34 → i < 34 → Minus a b out c i
+    → z + get_or b i 0 + from_bool c ≡ get_or a i 0 + from_bool d * 0x1_0000_0000_0000_0000 → z < 0x1_0000_0000_0000_0000 → Minus a b (set out i z) d (i + 1)
+minus_next a b out c i z d ha hb h l e f =
     let ho = l.size in
     let A : i < length a = omega arith in
     let B : i < length b = omega arith in
     let O : i < length out = omega arith in
     record {
       size = length-set out i z ∙ ho;
-      sum = rw (val-set_next out i z O, val_next a i A, val_next b i B) (balance (W i) (W (i + 1)) (val (take i a)) (val (take i b)) (val (take i out)) (get_or a i 0) (get_or b i 0) z c d (W-next i) l.sum e);
+      sum = rw (val-set_next out i z O, val_next b i B, val_next a i A) (balance (W i) (W (i + 1)) (val (take i a)) (val (take i b)) (val (take i out)) (get_or a i 0) (get_or b i 0) z (from_bool c) (from_bool d) (W-next i) l.sum (omega (arith, e)));
       fits = rw (val-set_next out i z O) (under (W i) (W (i + 1)) (val (take i out)) z (W-next i) l.fits f);
-      owed = g;
     }
 
-pub minus_all : (a b out : List ℕ) (c i : ℕ) → length a ≡ 34 → length b ≡ 34 → i ≡ 34 → Minus a b out c i → (val out + val b ≡ val a + N * c) × (val out < N) × (c ≤ 1)
-minus_all a b out c i ha hb h l =
-    let x : take i a ≡ a = take_all i a (omega arith) in
-    let y : take i b ≡ b = take_all i b (omega arith) in
-    let ho = l.size in
-    let z : take i out ≡ out = take_all i out (omega arith) in
-    let w : W i ≡ N = ap W h ∙ W-34 in
-    ((λ j. val (sym z j) + val (sym y j)) ∙ l.sum ∙ (λ j. val (x j) + w j * c), subst (λ (n : ℕ). n < N) (ap val z) (subst (λ (n : ℕ). val (take i out) < n) w l.fits), l.owed)
+-- ---- all limbs
+module _ (a b out : List ℕ) (c : Bool) (ha : length a ≡ 34) (hb : length b ≡ 34) (l : Minus a b out c 34) where
+  whole : val out + val b ≡ val a + N * from_bool c
+  whole =
+      let x : take 34 a ≡ a = take_all 34 a (omega arith) in
+      let y : take 34 b ≡ b = take_all 34 b (omega arith) in
+      let ho = l.size in
+      let z : take 34 out ≡ out = take_all 34 out (omega arith) in
+      (λ j. val (sym z j) + val (sym y j)) ∙ l.sum ∙ (λ j. val (x j) + W-34 j * from_bool c)
+
+  fits_all : val out < N
+  fits_all =
+      let ho = l.size in
+      let z : take 34 out ≡ out = take_all 34 out (omega arith) in
+      subst (λ (n : ℕ). n < N) (ap val z) (subst (λ (n : ℕ). val (take 34 out) < n) W-34 l.fits)
+
+  -- nothing is owed: it is the difference
+  pub left : c ≡ false → val out + val b ≡ val a
+  left h = unowed N (val out) (val b) (val a) (from_bool c) whole (ap from_bool h)
+    where
+      unowed : (n d x y k : ℕ) → d + x ≡ y + n * k → k ≡ 0 → d + x ≡ y
+      unowed n d x y k e z = rw z at e ∙ (let r : y + n * 0 ≡ y = omega arith in r)
+
+  -- 1 is owed: b is larger
+  pub larger : c ≡ true → val a < val b
+  larger h = owed N (val out) (val b) (val a) (from_bool c) whole (ap from_bool h) fits_all
+    where
+      owed : (n d x y k : ℕ) → d + x ≡ y + n * k → k ≡ 1 → d < n → y < x
+      owed n d x y k e z l = let r : d + x ≡ y + n * 1 = rw z at e in omega arith
 
 -- ---- the highest digit
 half_is : W 33 * 0x8000_0000_0000_0000 ≡ Half
@@ -94,21 +119,29 @@ lower w h H x a e l =
     let m : w * (x - h) + w * h ≡ w * x = sym (mul-add w (x - h) h) ∙ ap (λ (n : ℕ). w * n) (let k : x - h + h ≡ x = omega arith in k) in
     omega arith
 
-module _ (l : List ℕ) (e : length l ≡ 34) where
-  pub raise : Fit l → get_or l 33 0 < 0x8000_0000_0000_0000 → val (set l 33 (get_or l 33 0 + 0x8000_0000_0000_0000)) ≡ raised_of (val l)
-  raise f h =
-      let a = val (take 33 l) in
-      let x = get_or l 33 0 in
-      top_set l (x + 0x8000_0000_0000_0000) e
-      ∙ lift (W 33) 0x8000_0000_0000_0000 Half x a half_is
-      ∙ sym (raised-low (a + W 33 * x) (below (W 33) 0x8000_0000_0000_0000 Half x a half_is (low_below l e f) h))
-      ∙ ap raised_of (sym (top_of l e))
+-- the highest digit turned over, by half of a limb's modulus
+abbrev pub turned : ℕ → ℕ
+turned x = (x + 0x8000_0000_0000_0000) % 0x1_0000_0000_0000_0000
 
-  pub fall : 0x8000_0000_0000_0000 ≤ get_or l 33 0 → val (set l 33 (get_or l 33 0 - 0x8000_0000_0000_0000)) ≡ raised_of (val l)
-  fall h =
-      let a = val (take 33 l) in
-      let x = get_or l 33 0 in
-      top_set l (x - 0x8000_0000_0000_0000) e
-      ∙ lower (W 33) 0x8000_0000_0000_0000 Half x a half_is h
-      ∙ sym (raised-high (a + W 33 * x) (reached (W 33) 0x8000_0000_0000_0000 Half x a half_is h))
-      ∙ ap raised_of (sym (top_of l e))
+turned-low : (x : ℕ) → x < 0x8000_0000_0000_0000 → turned x ≡ x + 0x8000_0000_0000_0000
+turned-low x h = omega arith
+
+turned-high : (x : ℕ) → x < 0x1_0000_0000_0000_0000 → 0x8000_0000_0000_0000 ≤ x → turned x ≡ x - 0x8000_0000_0000_0000
+turned-high x f h = omega arith
+
+pub raise : (l : List ℕ) → length l ≡ 34 → Fit l → val (set l 33 (turned (get_or l 33 0))) ≡ raised_of (val l)
+raise l e f =
+    let a = val (take 33 l) in
+    let x = get_or l 33 0 in
+    top_set l (turned x) e
+    ∙ elim (lt-or-le x 0x8000_0000_0000_0000) [
+      | inl h ↦
+          ap (λ (n : ℕ). a + W 33 * n) (turned-low x h)
+          ∙ lift (W 33) 0x8000_0000_0000_0000 Half x a half_is
+          ∙ sym (raised-low (a + W 33 * x) (below (W 33) 0x8000_0000_0000_0000 Half x a half_is (low_below l e f) h))
+      | inr h ↦
+          ap (λ (n : ℕ). a + W 33 * n) (turned-high x (f 33) h)
+          ∙ lower (W 33) 0x8000_0000_0000_0000 Half x a half_is h
+          ∙ sym (raised-high (a + W 33 * x) (reached (W 33) 0x8000_0000_0000_0000 Half x a half_is h))
+    ]
+    ∙ ap raised_of (sym (top_of l e))

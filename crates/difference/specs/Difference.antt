@@ -1,5 +1,5 @@
 -- Two sheets compared, the old one s and the new one t (02, [5]): what refuses it, how each row differs, and the difference of the totals. Definitions only.
-use Rattle.std.specs.Prelude.{ℕ, zero, suc, ◌+◌, ◌-◌, Bool, true, false, not, ◌&&◌, List, ltb, eqb, ℤ, pos, negsuc, neg_ℤ, ◌-ℤ◌}
+use Rattle.std.specs.Prelude.{ℕ, zero, suc, ◌+◌, ◌-◌, Bool, true, false, not, ◌&&◌, List, ltb, eqb, Result, Ok, Err, ⊤, ℤ, pos, negsuc, neg_ℤ, ◌-ℤ◌}
 use Rattle.std.specs.Float.Ieee.Scale.{finite}
 use Rattle.laws.specs.Arithmetic.{float}
 use Rattle.laws.specs.Ladder.{when◌gives◌else◌}
@@ -8,25 +8,37 @@ use Rattle.ledger.specs.Sheet.{finite_class}
 use Rattle.ledger.specs.Calls.{rows_in, equal, is_sheet, read_of, exact_of}
 use Rattle.inspection.specs.Rows.{first_rejected, class_in, word_of}
 use Rattle.difference.specs.Steps.{steps_of}
+use Rattle.difference.specs.declared.Side.{Side}
+use Rattle.difference.specs.declared.Side.TheVariants.{Old, New}
 use Rattle.difference.specs.declared.Stop.{Stop}
+use Rattle.difference.specs.declared.Stop.TheVariants.{NotASheet, Unequal, Damaged}
 use Rattle.difference.specs.declared.Change.{Change}
 use Rattle.difference.specs.declared.Change.TheVariants.{Same, Moved, Alike, First, Steps}
 
 -- ---- refusals
 
--- refusal q, about sheet k (1 the old one, 2 the new one, 0 neither) and its row i; all 0: none
-abbrev pub stop : ℕ → ℕ → ℕ → Stop
-stop q k i = record { refusal = q; sheet = k; row = i }
+-- the number of what refuses a comparison, 0 where nothing does
+abbrev pub number_of : Result ⊤ Stop → ℕ
+number_of (Ok x) = 0
+number_of (Err (NotASheet k)) = 7
+number_of (Err Unequal) = 13
+number_of (Err (Damaged k i)) = 10
+
+-- a sheet's first row that refusal 10's row tests reject, if there is one
+unfoldable pub rejected_of : List ℕ → Side → Result ⊤ Stop
+rejected_of s k =
+    when ltb (first_rejected s) (rows_in s) gives Err (Damaged k (first_rejected s)) else
+    Ok tt
 
 -- "7 for either file; a new 13 when the row counts differ, tried after both files have passed 7; then 10 for a row that refusal 10's row tests reject"
-unfoldable pub stop_of : List ℕ → List ℕ → Stop
+unfoldable pub stop_of : List ℕ → List ℕ → Result ⊤ Stop
 stop_of s t =
-    when not (is_sheet s) gives stop 7 1 0 else
-    when not (is_sheet t) gives stop 7 2 0 else
-    when not (eqb (rows_in s) (rows_in t)) gives stop 13 0 0 else
-    when ltb (first_rejected s) (rows_in s) gives stop 10 1 (first_rejected s) else
-    when ltb (first_rejected t) (rows_in t) gives stop 10 2 (first_rejected t) else
-    stop 0 0 0
+    when not (is_sheet s) gives Err (NotASheet Old) else
+    when not (is_sheet t) gives Err (NotASheet New) else
+    when not (eqb (rows_in s) (rows_in t)) gives Err Unequal else
+    when ltb (first_rejected s) (rows_in s) gives Err (Damaged Old (first_rejected s)) else
+    when ltb (first_rejected t) (rows_in t) gives Err (Damaged New (first_rejected t)) else
+    Ok tt
 
 -- ---- rows
 

@@ -7,7 +7,9 @@ use Rattle.ledger.specs.Calls.{rows_in, read_of, times_of}
 use Rattle.inspection.specs.Rows.{word_of}
 use Rattle.text.specs.Text.{decimal, pattern, space, end}
 use Rattle.exact.specs.Exact.{signed_hex}
+use Rattle.difference.specs.declared.Side.TheVariants.{Old, New}
 use Rattle.difference.specs.declared.Stop.{Stop}
+use Rattle.difference.specs.declared.Stop.TheVariants.{NotASheet, Unequal, Damaged}
 use Rattle.difference.specs.declared.Change.{Change}
 use Rattle.difference.specs.declared.Change.TheVariants.{Same, Moved, Alike, First, Steps}
 use Rattle.difference.specs.Difference.{agree, change_of, changes, rows_of, growth_of, below_zero}
@@ -96,14 +98,18 @@ text_of s t = lines_of s t (rows_in s) ++ end_of s t
 
 -- what stands in front of a refused file's name, or of the line's end where none is named: refused 7 NAME, refused 13, refused 10 row I NAME
 unfoldable pub stop_text : Stop → List ℕ
-stop_text q =
-    when eqb q.refusal 13 gives ascii "refused 13" else
-    when eqb q.refusal 10 gives ascii "refused 10 row " ++ field q.row else
-    ascii "refused 7 "
+stop_text (NotASheet k) = ascii "refused 7 "
+stop_text Unequal = ascii "refused 13"
+stop_text (Damaged k i) = ascii "refused 10 row " ++ field i
+
+-- the name of the file that it is about; nothing where it is about both
+abbrev pub name_in : List ℕ → List ℕ → Stop → List ℕ
+name_in old new (NotASheet Old) = old
+name_in old new (NotASheet New) = new
+name_in old new Unequal = []
+name_in old new (Damaged Old i) = old
+name_in old new (Damaged New i) = new
 
 -- the line of a refusal: the file that it is about stands last, by the name that was given
 unfoldable pub refused_text : List ℕ → List ℕ → Stop → List ℕ
-refused_text old new q =
-    stop_text q
-    ++ (when eqb q.sheet 1 gives old else when eqb q.sheet 2 gives new else [])
-    ++ end
+refused_text old new q = stop_text q ++ name_in old new q ++ end

@@ -17,6 +17,7 @@ use difference::Stop;
 use exact::put_whole;
 use side::put_side;
 use text::{put_bytes, put_decimal};
+use total::Signed;
 
 // Room for the longest line: the end's, with a whole number of 544 digits.
 pub const LINE: usize = 640;
@@ -46,13 +47,13 @@ pub fn put_line(out: &mut [u8; LINE], old: &[u8], new: &[u8], row: u32) -> usize
 }
 
 // The two lines of the end, of a whole number and a count.
-fn put_sums(out: &mut [u8], negative: bool, limbs: [u64; 34], rows: u32) -> usize
+fn put_sums(out: &mut [u8], growth: Signed, rows: u32) -> usize
     requires { 640 ≤ length out.old }
-    ensures put { Put out.old out.new 0 result ((ascii "difference " ++ (signed_hex negative (val limbs) ++ end)) ++ (ascii "rows " ++ last rows)) }
+    ensures put { Put out.old out.new 0 result ((ascii "difference " ++ (signed_hex growth.negative (val growth.limbs) ++ end)) ++ (ascii "rows " ++ last rows)) }
     ensures upper_bound { result ≤ length out.new }
 {
     let a = put_bytes(out, 0, b"difference ");
-    let b = put_whole(out, a, negative, &limbs, 10);
+    let b = put_whole(out, a, growth.negative, &growth.limbs, 10);
     let c = put_bytes(out, b, b"rows ");
     put_decimal(out, c, rows as u64, 10)
 }
@@ -64,8 +65,7 @@ pub fn put_end(out: &mut [u8; LINE], old: &[u8], new: &[u8]) -> usize
 {
     let rows = difference::changed_rows(old, new);
     let growth = difference::grown(old, new);
-    let limbs = growth.limbs;
-    put_sums(out, growth.negative, limbs, rows)
+    put_sums(out, growth, rows)
 }
 
 fn put_rejected(out: &mut [u8], row: u32) -> usize
@@ -82,11 +82,9 @@ pub fn put_stop(out: &mut [u8; LINE], stop: Stop) -> usize
     ensures put { Put out.old out.new 0 result (stop_text stop) }
     ensures upper_bound { result ≤ length out.new }
 {
-    if stop.refusal == 13 {
-        return put_bytes(out, 0, b"refused 13");
+    match stop {
+        Stop::NotASheet(_) => put_bytes(out, 0, b"refused 7 "),
+        Stop::Unequal => put_bytes(out, 0, b"refused 13"),
+        Stop::Damaged(_, row) => put_rejected(out, row),
     }
-    if stop.refusal == 10 {
-        return put_rejected(out, stop.row);
-    }
-    put_bytes(out, 0, b"refused 7 ")
 }

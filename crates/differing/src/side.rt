@@ -9,10 +9,7 @@ use text::{put_decimal, put_pattern};
 fn byte_of(row: &[u8], k: usize) -> u8
     ensures { result ≡ get_or row.now k 0 }
 {
-    if k < row.len() {
-        return row[k];
-    }
-    0
+    row.get(k).copied().unwrap_or(0)
 }
 
 // Function and refusal number.

@@ -1,45 +1,42 @@
 -- Refused, or the lines and the end.
-use mathlib.Core.Path.{◌≡◌, refl, sym, ap, subst, ◌∙◌}
-use mathlib.Core.Bool.{Bool, true, false}
-use mathlib.Core.List.{List}
-use Prim.Native.Nat.{ℕ}
-use native.Mathlib.Omega.{arith}
-use borrow.Author.Tests.{eq-eqb, ne_eqb}
+use Rattle.std.proofs.Common.{◌≡◌, refl, sym, subst, ◌∙◌, Bool, true, false, List, ℕ, arith, Ok}
+use Rattle.std.specs.Prelude.{Result, ⊤}
 use Rattle.ledger.specs.Calls.{is_sheet}
 use Rattle.ledger.specs.laws.Refusals.{sheet_few}
 use Rattle.difference.specs.declared.Stop.{Stop}
 use Rattle.difference.specs.Difference.{stop_of}
 use Rattle.differing.specs.Differing.{lines_of, text_of}
+use Rattle.files.specs.declared.sending.Output.{Output}
 use Rattle.files.specs.Output.{Wrote}
 use Rattle.files.specs.laws.Outputs.{wrote_both}
-use Rattle.comparing.specs.Comparing.{compared_text}
+use Rattle.comparing.specs.Comparing.{said_of, compared_text}
 use Rattle.comparing.proofs.compare.Goals as goal
 
 -- what is not refused is a sheet
-taken_sheet : (s t : List ℕ) → (stop_of s t).refusal ≡ 0 → is_sheet s ≡ true
+taken_sheet : (s t : List ℕ) (u : ⊤) → stop_of s t ≡ Ok u → is_sheet s ≡ true
 unfolding stop_of
-taken_sheet s t e = by (is_sheet s) refl where
+taken_sheet s t u e = by (is_sheet s) refl where
   by : (b : Bool) → is_sheet s ≡ b → is_sheet s ≡ true
   by true h = h
-  by false h = absurd (let z : ⊥ = omega (arith, rw h at e) in z)
+  by false h = let z = rw h at e in cc
 
-pub returns-then-stop-ne0 : goal.returns-then-stop-ne0
+-- as the tests came out
+said : (old new s t : List ℕ) {q : Result ⊤ Stop} {o u : Output} → stop_of s t ≡ q → Wrote o (said_of old new s t q) u → Wrote o (compared_text old new s t) u
 unfolding compared_text
-returns-then-stop-ne0 c =
-    let s = c.stopped-stop in
-    rw (← s.ensures) (rw (ne_eqb s.result.refusal 0 c.if-stop-ne0.true) c.send_refusal.ensures)
+said old new s t {o = o} {u = u} e w = subst (λ (r : Result ⊤ Stop). Wrote o (said_of old new s t r) u) (sym e) w
+
+pub returns-in-Err : goal.returns-in-Err
+returns-in-Err c =
+    let a = c.args in
+    said a.first.now a.second.now a.old.now a.new.now (sym c.stopped.ensures ∙ c.in-Err.is) c.send_refusal.ensures
 
 pub overflow_cast-rows : goal.overflow_cast-rows
 overflow_cast-rows c =
-    let s = c.stopped-stop in
-    let a = c.args in
-    omega (arith, c.rows_in-rows.ensures, sheet_few a.old.now (taken_sheet a.old.now a.new.now (ap (λ (q : Stop). q.refusal) (sym s.ensures) ∙ c.if-stop-ne0.false)))
+    omega (arith, c.rows_in-rows.ensures, sheet_few c.args.old.now (taken_sheet c.args.old.now c.args.new.now _ (sym c.stopped.ensures ∙ c.in_default.is)))
 
 pub returns : goal.returns
-unfolding compared_text text_of
+unfolding text_of
 returns c =
-    let s = c.stopped-stop in
-    let r = c.rows_in-rows in
     let a = c.args in
-    rw (← s.ensures) (rw (eq-eqb s.result.refusal 0 c.if-stop-ne0.false)
-    (wrote_both (subst (λ (n : ℕ). Wrote a.out (lines_of a.old.now a.new.now n) c.send_lines-sent.result) r.ensures c.send_lines-sent.ensures) c.send_end.ensures))
+    said a.first.now a.second.now a.old.now a.new.now (sym c.stopped.ensures ∙ c.in_default.is)
+    (wrote_both (subst (λ (n : ℕ). Wrote a.out (lines_of a.old.now a.new.now n) c.send_lines-sent.result) c.rows_in-rows.ensures c.send_lines-sent.ensures) c.send_end.ensures)

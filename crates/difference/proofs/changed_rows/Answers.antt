@@ -1,16 +1,27 @@
--- The invariant: the rows that differ among those passed, and they are no more than those.
-use mathlib.Core.Path.{◌≡◌, refl, ◌∙◌, ap}
-use mathlib.Core.Bool.{Bool, true, false, cond}
-use Prim.Native.Nat.{ℕ, ◌+◌, ◌≤◌}
-use native.Mathlib.Numerals.{add-one}
-use native.Mathlib.Omega.{arith}
+-- The rows that differ, counted.
+use Rattle.std.proofs.Common.{◌≡◌, refl, ◌∙◌, ap, ℕ, ◌+◌, length, length-append, append-nil, add-zero, zero-add, add-one, map, map-id, sym, arith, rules, tests, not, cond, Bool, true, false, List, [], ◌∷◌, ◌++◌, zero, suc}
+use Rattle.std.specs.List.{filter, range_with_len}
+use Rattle.std.proofs.lemmas.Iterator.{YieldsList-from_range}
+use Rattle.std.proofs.lemmas.Iterator.Consumers.{YieldsList-from_filter, count_from_yields_List}
+use Rattle.std.proofs.lemmas.List.FromFn.{filter_of_map_range_with_len_more}
 use Rattle.ledger.specs.laws.Refusals.{sheet_few, no_sheet, a_sheet}
 use Rattle.difference.specs.Difference.{agree, changes, rows_of}
 use Rattle.difference.proofs.changed_rows.Goals as goal
 
-at_most_one : (b : Bool) (n : ℕ) → n ≡ cond b 0 1 → n ≤ 1
-at_most_one true n e = omega arith
-at_most_one false n e = omega arith
+filter-range_more : (p : ℕ → Bool) (n : ℕ) → filter p (range_with_len 0 (suc n)) ≡ filter p (range_with_len 0 n) ++ cond (p n) (n ∷ []) []
+filter-range_more p n =
+    ap (filter p) (sym (map-id (range_with_len 0 (suc n))) ∙ ap (λ k. map (λ i. i) (range_with_len 0 k)) (sym (add-one n)))
+    ∙ filter_of_map_range_with_len_more p (λ i. i) 0 n n (zero-add n)
+    ∙ ap (λ xs. filter p xs ++ cond (p n) (n ∷ []) []) (map-id (range_with_len 0 n))
+
+one_more : (b : Bool) (n : ℕ) (j : ℕ) (xs : List ℕ) → length xs ≡ n → length (xs ++ cond (not b) (j ∷ []) []) ≡ n + cond b 0 1
+one_more true n j xs e = rw append-nil (e ∙ sym (add-zero n))
+one_more false n j xs e = length-append xs (j ∷ []) ∙ ap (λ (k : ℕ). k + 1) e
+
+changes_are : (s t : List ℕ) (n : ℕ) → length (filter (λ i. not (agree s t i)) (range_with_len 0 n)) ≡ changes s t n
+unfolding changes
+changes_are s t zero = refl
+changes_are s t (suc n) = ap length (filter-range_more (λ i. not (agree s t i)) n) ∙ one_more (agree s t n) (changes s t n) n _ (changes_are s t n)
 
 pub returns-then-total_refusal-ne0 : goal.returns-then-total_refusal-ne0
 unfolding rows_of changes
@@ -19,29 +30,12 @@ returns-then-total_refusal-ne0 c = let b = c.total_refusal in rw (no_sheet _ _ b
 pub overflow_cast-rows : goal.overflow_cast-rows
 overflow_cast-rows c = omega (arith, c.rows_in-rows.ensures, sheet_few _ (a_sheet _ _ c.total_refusal.ensures c.if-total_refusal-ne0.false))
 
-pub loop-i-init : goal.loop-i-init
-unfolding changes
-loop-i-init c = (omega arith, omega arith, refl)
-
-pub overflow_add-n : goal.overflow_add-n
-overflow_add-n c = record { fits = omega (arith, c.loop-i-test.true, c.loop-i.invariant.1, c.rows_in-rows.ensures, at_most_one (agree c.args.old.now c.args.new.now c.loop-i.i) _ c.counted-n.ensures, sheet_few _ (a_sheet _ _ c.total_refusal.ensures c.if-total_refusal-ne0.false)) }
-
-pub overflow_add-i : goal.overflow_add-i
-overflow_add-i c = record { fits = omega (arith, c.loop-i-test.true, c.rows_in-rows.ensures, sheet_few _ (a_sheet _ _ c.total_refusal.ensures c.if-total_refusal-ne0.false)) }
-
-pub loop-i-smaller : goal.loop-i-smaller
-loop-i-smaller c = omega (arith, c.loop-i-test.true)
-
-pub loop-i-preserved : goal.loop-i-preserved
-unfolding changes
-loop-i-preserved c =
-    let l = c.loop-i in
-    (omega (arith, c.loop-i-test.true), omega (arith, l.invariant.1, at_most_one (agree c.args.old.now c.args.new.now c.loop-i.i) _ c.counted-n.ensures), rw (add-one l.i) (λ j. l.invariant.2 j + c.counted-n.ensures j))
-
 pub returns : goal.returns
 unfolding rows_of
 returns c =
-    let l = c.loop-i in
-    let r = c.rows_in-rows in
-    let all : l.i ≡ r.result = omega (arith, c.loop-i-test.false, l.invariant.0) in
-    rw (a_sheet _ _ c.total_refusal.ensures c.if-total_refusal-ne0.false) (l.invariant.2 ∙ ap (changes _ _) (all ∙ r.ensures))
+    let s = c.args.old.now in
+    let t = c.args.new.now in
+    rw (a_sheet _ _ c.total_refusal.ensures c.if-total_refusal-ne0.false)
+    (count_from_yields_List c.filter.result _ c.count.ensures.ran (YieldsList-from_filter _ (λ i. not (agree s t i)) (YieldsList-from_range 0 c.rows_in-rows.result c.rows_in-rows.result (cc) (omega arith)) c.filter.ensures.closure (λ x b q k. search (rules, tests)))
+    ∙ changes_are s t c.rows_in-rows.result
+    ∙ ap (changes s t) c.rows_in-rows.ensures)

@@ -15,8 +15,8 @@ use Rattle.differing.proofs.put_sums.Goals as goal
 pub returns : goal.returns
 returns c =
     let a = c.args in
-    let n = signed_hex a.negative (val a.limbs) ++ end in
-    let first = placed_both a.out.now 0 11 546 11 546 (ascii "difference ") n (omega arith, whole-most a.negative (val a.limbs) 10) (omega arith, omega arith) (omega arith, omega arith)
+    let n = signed_hex a.growth.negative (val a.growth.limbs) ++ end in
+    let first = placed_both a.out.now 0 11 546 11 546 (ascii "difference ") n (omega arith, whole-most a.growth.negative (val a.growth.limbs) 10) (omega arith, omega arith) (omega arith, omega arith)
     c.put_bytes-a.ensures c.put_whole-b.ensures in
     let second = placed_both _ _ 5 21 5 21 (ascii "rows ") (last a.rows) (omega arith, field-most a.rows 10) (omega arith, omega arith) (omega (arith, first.1, first.2), omega (arith, first.1, first.2))
     c.put_bytes-c.ensures c.put_decimal.ensures in

@@ -2,19 +2,12 @@
 use borrow.Author.Rules.{elem_Fits}
 use mir.Syntax.{w64}
 use Rattle.total.specs.laws.Limbs.{val-lt}
-use Rattle.difference.proofs.Borrowing.{raise, fall}
+use Rattle.difference.proofs.Borrowing.{raise}
 use Rattle.difference.proofs.limbs.raised.Goals as goal
-
-pub returns-then-top-lt9223372036854775808 : goal.returns-then-top-lt9223372036854775808
-returns-then-top-lt9223372036854775808 c =
-    let l = c.args.limbs in
-    let g = c.well_formed.0 in
-    let e = g.1.0.1 in
-    (raise l e (λ i. (elem_Fits w64 w64 l g.0 i g.1.1 tt).fits) c.if-top-lt9223372036854775808.true, val-lt l e (λ i. (elem_Fits w64 w64 l g.0 i g.1.1 tt).fits))
 
 pub returns : goal.returns
 returns c =
     let l = c.args.limbs in
     let g = c.well_formed.0 in
     let e = g.1.0.1 in
-    (fall l e c.if-top-lt9223372036854775808.false, val-lt l e (λ i. (elem_Fits w64 w64 l g.0 i g.1.1 tt).fits))
+    (raise l e (λ i. (elem_Fits w64 w64 l g.0 i g.1.1 tt).fits), val-lt l e (λ i. (elem_Fits w64 w64 l g.0 i g.1.1 tt).fits))

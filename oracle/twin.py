@@ -12,6 +12,8 @@ NUM = '''
 pub mod num {
     pub fn wrapping_add_u64(a: u64, b: u64) -> u64 { a.wrapping_add(b) }
     pub fn wrapping_sub_u64(a: u64, b: u64) -> u64 { a.wrapping_sub(b) }
+    pub fn wrapping_add_u128(a: u128, b: u128) -> u128 { a.wrapping_add(b) }
+    pub fn wrapping_sub_u128(a: u128, b: u128) -> u128 { a.wrapping_sub(b) }
     pub fn wrapping_add_usize(a: usize, b: usize) -> usize { a.wrapping_add(b) }
     pub fn wrapping_sub_usize(a: usize, b: usize) -> usize { a.wrapping_sub(b) }
     pub fn wrapping_add_u32(a: u32, b: u32) -> u32 { a.wrapping_add(b) }
@@ -84,13 +86,17 @@ pub mod os {
 }
 
 
+# A clause, a ghost field or a ghost member begins so, and ends with the brace that closes it and what follows that.
+GHOST = re.compile(r'\n[ \t]*(?:(?:requires|ensures)\b[^{\n]*\{|ghost (?!use\b)[^{;\n]*\{|impl Model for [^{\n]*\{)')
+
+
 def without_contracts(text):
     text = re.sub(r'^\s*ghost use [^;]*;\n', '', text, flags=re.M)
-    text = re.sub(r'^#!\[[^\]]*\]\n', '', text, flags=re.M)
+    text = re.sub(r'^\s*#!?\[(tactic|cycle)\b[^\n]*\n', '', text, flags=re.M)
+    text = re.sub(r'^use std::marker::Model;\n', '', text, flags=re.M)
     out, i = [], 0
-    clause = re.compile(r'\n\s*(requires|ensures)\b[^{\n]*\{')
     while True:
-        m = clause.search(text, i)
+        m = GHOST.search(text, i)
         if not m:
             out.append(text[i:])
             return ''.join(out)
@@ -99,6 +105,7 @@ def without_contracts(text):
         while depth:
             depth += {'{': 1, '}': -1}.get(text[i], 0)
             i += 1
+        if 'ghost ' in m.group() and text[i] in ',;': i += 1
 
 
 def module(crates, name, path, deps):

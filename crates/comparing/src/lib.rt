@@ -103,15 +103,13 @@ fn compare_files(rt: &HostRuntime, program: &[u8], output: i32, old: &[u8], new:
     let out = files::begin(output);
     let before = loading::load(rt, old, &mut first);
     let after = loading::load(rt, new, &mut second);
-    if !before.ok {
+    let Some(before) = before else {
         return unread(rt, program, out, old);
-    }
-    if !after.ok {
+    };
+    let Some(after) = after else {
         return unread(rt, program, out, new);
-    }
-    let n = before.length;
-    let m = after.length;
-    compare(rt, out, old, new, &first[0..n], &second[0..m])
+    };
+    compare(rt, out, old, new, before, after)
 }
 
 // What is said on standard error where the output could not be written.
@@ -135,8 +133,8 @@ pub fn run(rt: &HostRuntime, program: &[u8], call: &[u8], output: i32)
     }
     let mut old = [0u8; WORD];
     let mut new = [0u8; WORD];
-    let n = files::word(rt, 1, &mut old);
-    let m = files::word(rt, 2, &mut new);
-    let end = compare_files(rt, program, output, &old[0..n], &new[0..m]);
+    let old = files::word(rt, 1, &mut old);
+    let new = files::word(rt, 2, &mut new);
+    let end = compare_files(rt, program, output, old, new);
     complain(rt, program, end.ok);
 }

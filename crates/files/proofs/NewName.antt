@@ -1,6 +1,7 @@
 -- The new file's name: its folder, its pieces, and the names that were tried. Assumes nothing.
-use Rattle.std.proofs.Common.{◌≡◌, ℕ, ◌+◌, ◌-◌, ◌<◌, ◌≤◌, List, [], ◌∷◌, ◌++◌, length, get_or, take, set, ℤ, sym, refl, ap, ◌∙◌, zero-add, add-one, arith, length-append, take-suc-set, take_at, below_more, eq-eqb, ne_eqb}
-use Rattle.std.specs.Prelude.{Some, None}
+use Rattle.std.proofs.Common.{◌≡◌, ℕ, zero, suc, Bool, true, false, cond, ltb, ltb-true, ◌+◌, ◌<◌, ◌≤◌, List, [], ◌∷◌, ◌++◌, length, take, set, ℤ, sym, refl, ap, ◌∙◌, zero-add, add-one, arith, length-append, take-suc-set, take_at, below_more, eq-eqb, ne_eqb}
+use Rattle.std.specs.Prelude.{Some, None, nat_eq, slice_index, ◌≢◌}
+use Rattle.std.proofs.lemmas.Bool.{ltb-false}
 use Rattle.laws.specs.Ascii.{ascii}
 use Rattle.text.specs.Text.{decimal}
 use Rattle.text.specs.Writing.{Puts}
@@ -11,21 +12,33 @@ use Rattle.files.specs.Save.{folder_end, folder_of, stem_of, longest_folder, wit
 
 -- ---- the folder's end
 
-module _ (name : List ℕ) (n : ℕ) (some : 0 < n) where
-  one_more_lem : n ≡ n - 1 + 1
-  one_more_lem = omega arith
-
-  pub slash_last : get_or name (n - 1) 0 ≡ 47 → folder_end name n ≡ n
+module _ (name : List ℕ) where
+  -- the last '/' ends it
+  ends_at : (i n : ℕ) → i < n → slice_index name i ≡ 47 → ((k : ℕ) → i < k → k < n → slice_index name k ≢ 47) → folder_end name n ≡ i + 1
   unfolding folder_end
-  slash_last e = ap (folder_end name) one_more_lem ∙ rw add-one (simp (eq-eqb _ 47 e)) ∙ sym (add-one (n - 1)) ∙ sym one_more_lem
+  ends_at i zero h at after = absurd (omega arith)
+  ends_at i (suc n) h at after = by_place (ltb i n) refl (λ above. ends_at i n above at (λ k low high. after k low (omega arith))) where
+    by_place : (t : Bool) → ltb i n ≡ t → (i < n → folder_end name n ≡ i + 1) → cond (nat_eq (slice_index name n) 47) (suc n) (folder_end name n) ≡ i + 1
+    by_place true e before =
+        let above : i < n = ltb-true i n e in
+        simp (ne_eqb _ 47 (after n above (omega arith))) (before above)
+    by_place false e before =
+        let is : i ≡ n = omega (arith, ltb-false i n e) in
+        simp (eq-eqb _ 47 (rw is at at)) (omega arith)
 
-  pub none_there : (get_or name (n - 1) 0 ≡ 47 → ⊥) → folder_end name n ≡ folder_end name (n - 1)
+  -- where there is none it is empty
+  ends_nowhere : (n : ℕ) → ((k : ℕ) → k < n → slice_index name k ≢ 47) → folder_end name n ≡ 0
   unfolding folder_end
-  none_there e = ap (folder_end name) one_more_lem ∙ rw add-one (simp (ne_eqb _ 47 e))
+  ends_nowhere zero none = refl
+  ends_nowhere (suc n) none = simp (ne_eqb _ 47 (none n (omega arith))) (ends_nowhere n (λ k h. none k (omega arith)))
 
-pub folder_is : (name : List ℕ) (n : ℕ) → n ≡ folder_end name (length name) → folder_of name ≡ take n name
-unfolding folder_of
-folder_is name n e = rw (← e) refl
+  pub folder_at : (i : ℕ) → i < length name → slice_index name i ≡ 47 → ((k : ℕ) → i < k → k < length name → slice_index name k ≢ 47) → take (i + 1) name ≡ folder_of name
+  unfolding folder_of
+  folder_at i h at after = ap (λ (n : ℕ). take n name) (sym (ends_at i (length name) h at after))
+
+  pub folder_nowhere : ((k : ℕ) → k < length name → slice_index name k ≢ 47) → ◌≡◌ {A = List ℕ} [] (folder_of name)
+  unfolding folder_of
+  folder_nowhere none = ap (λ (n : ℕ). take n name) (sym (ends_nowhere (length name) none))
 
 -- ---- the pieces of its stem
 

@@ -1,5 +1,5 @@
 -- Text sent to an output, one piece after the other. Definitions only.
-use Rattle.std.specs.Prelude.{◌≡◌, ℕ, ◌+◌, ◌%◌, ◌^◌, Bool, true, false, List, [], ◌++◌, ℤ}
+use Rattle.std.specs.Prelude.{◌≡◌, ℕ, ◌+◌, ◌%◌, ◌^◌, Bool, true, false, List, [], ◌++◌, ℤ, pos}
 use Rattle.files.specs.declared.sending.Output.{Output}
 use Rattle.files.specs.Calls.{sends, Called}
 
@@ -18,3 +18,8 @@ pub data Wrote : Output → List ℕ → Output → Type 0 where
   sent : {o u : Output} {text : List ℕ} (piece rest : List ℕ) (ok : Bool) → text ≡ piece ++ rest → o.ok ≡ true → Called (sends o.file o.sends piece ok)
       → Wrote (after_send o ok) rest u → Wrote o text u
   lost : {o : Output} {text : List ℕ} → o.ok ≡ false → Wrote o text o
+
+-- standard error was told this, after the program's name
+pub record Told (program what : List ℕ) : Type 0 where
+  pub last : Output
+  pub wrote : Wrote (output_of (pos 2)) (program ++ what) last

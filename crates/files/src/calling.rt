@@ -1,5 +1,5 @@
 // The words of the program's call.
-ghost use Rattle.std.specs.Prelude.{◌≤◌, length, take};
+ghost use Rattle.std.specs.Prelude.{◌≤◌, length};
 ghost use Rattle.files.specs.Calls.{Called, has, words, Counts};
 
 use std::env::FillError;
@@ -24,23 +24,19 @@ fn is_there(rt: &HostRuntime, i: usize) -> bool
 pub fn word_count(rt: &HostRuntime) -> usize
     ensures { Counts result }
 {
-    let mut n: usize = 0;
-    while n < usize::MAX {
+    for n in 0..usize::MAX {
         if !is_there(rt, n) {
             return n;
         }
-        n += 1;
     }
-    n
+    usize::MAX
 }
 
-// Word i, at the start of the buffer: its length.
-pub fn word(rt: &HostRuntime, i: usize, into: &mut [u8; WORD]) -> usize
-    ensures called { Called (words i (take result into.new)) }
-    ensures upper_bound { result ≤ length into.new }
+// Word i, put at the start of the buffer; none of it where it is longer.
+pub fn word<'a>(rt: &HostRuntime, i: usize, into: &'a mut [u8; WORD]) -> &'a [u8]
+    ensures called { Called (words i result.now) }
+    ensures upper_bound { length result.now ≤ 131072 }
 {
-    match rt.arg(i, into) {
-        Ok(n) => n,
-        Err(_) => 0,
-    }
+    let n = rt.arg(i, into).unwrap_or(0);
+    &into[..n]
 }

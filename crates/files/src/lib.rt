@@ -5,6 +5,8 @@
 mod calling;
 mod closing;
 mod naming;
+mod older;
+mod program;
 mod reading;
 mod saving;
 mod saying;
@@ -12,7 +14,8 @@ mod sending;
 
 pub use calling::{WORD, word, word_count};
 pub use closing::close;
+pub use older::{begin, cannot_write, put, put_note, tell, usage};
+pub use program::Program;
 pub use reading::{Source, call_read, count, read_some};
-pub use saving::save;
-pub use saying::{cannot_write, put_note, tell, usage};
-pub use sending::{Output, STDERR, STDOUT, begin, put};
+pub use saving::{Unsaved, save};
+pub use sending::{Output, STDERR, STDOUT};

@@ -1,7 +1,7 @@
 // A new file in the same folder as another, under a name that was free.
-ghost use Rattle.std.specs.Prelude.{◌≡◌, ◌+◌, ◌<◌, ◌≤◌, length, take, IsUtf8};
+ghost use Rattle.std.specs.Prelude.{◌≡◌, ◌+◌, ◌<◌, ◌≤◌, length, take, IsUtf8, MatchOption};
 ghost use Rattle.files.specs.Calls.{Called, makes, number_if};
-ghost use Rattle.files.specs.Save.{folder_end, folder_of, stem_of, Stem, with_digit, longest_folder, Tries};
+ghost use Rattle.files.specs.Save.{folder_of, stem_of, Stem, with_digit, longest_folder, Tries};
 
 use std::fs::{File, OpenOptions};
 
@@ -11,19 +11,14 @@ pub const PATH: usize = 4096;
 // The longest folder that leaves room for the new file's name.
 const FOLDER: usize = 4068;
 
-// Where the folder's name ends.
-fn folder(name: &[u8]) -> usize
-    ensures { (result ≡ folder_end name.now (length name.now)) × (result ≤ length name.now) }
+// The folder: the name up to and with its last '/'.
+fn folder(name: &[u8]) -> &[u8]
+    ensures { result.now ≡ folder_of name.now }
 {
-    let mut n = name.len();
-    while 0 < n {
-        let last = n - 1;
-        if name[last] == 47 {
-            return n;
-        }
-        n = last;
+    match name.iter().rposition(|b| *b == b'/') {
+        Some(last) => &name[..last + 1],
+        None => &name[..0],
     }
-    0
 }
 
 // The new name but for its last digit, at the start of the path.
@@ -55,7 +50,7 @@ fn try_name(rt: &HostRuntime, path: &mut [u8], at: usize, k: u8) -> Option<File>
     ensures path_after { take (at + 1) path.new ≡ with_digit (take at path.old) k }
     ensures called { Called (makes (take (at + 1) path.new) (number_if result)) }
 {
-    path[at] = 48 + k;
+    path[at] = b'0' + k;
     let n = at + 1;
     let Ok(new) = std::str::from_utf8(&path[0..n]) else {
         unreachable!()
@@ -68,24 +63,22 @@ pub(crate) fn try_names(rt: &HostRuntime, path: &mut [u8], at: usize) -> Option<
     requires { (at < length path.old) × IsUtf8 (take at path.old) }
     ensures { Tries (take at path.old) (take (at + 1) path.new) (number_if result) }
 {
-    let mut k: u8 = 0;
-    while k < 10 {
+    for k in 0..10 {
         if let Some(file) = try_name(rt, path, at, k) {
             return Some(file);
         }
-        k += 1;
     }
     None
 }
 
-// The new name but for its last digit, at the start of the path: its length, and 0 where the folder's name is too long.
-pub(crate) fn put_new(rt: &HostRuntime, name: &[u8], path: &mut [u8; PATH]) -> usize
-    ensures longest_folder_in_bounds { result ≡ 0 → longest_folder < length (folder_of name.now) }
-    ensures stem { 0 < result → Stem name.now (take result path.new) × (result < 4096) × (length path.new ≡ 4096) }
+// The new name but for its last digit, at the start of the path: its length, and none where the folder's name is too long.
+pub(crate) fn put_new(rt: &HostRuntime, name: &[u8], path: &mut [u8; PATH]) -> Option<usize>
+    ensures { MatchOption result (longest_folder < length (folder_of name.now)) (λ n. Stem name.now (take n path.new) × (n < 4096)) }
 {
-    let n = folder(name);
-    if FOLDER < n {
-        return 0;
+    let folder = folder(name);
+    if FOLDER < folder.len() {
+        return None;
     }
-    put_stem(&name[0..n], u64::from(std::process::id(rt.process())), path)
+    let number = u64::from(std::process::id(rt.process()));
+    Some(put_stem(folder, number, path))
 }

@@ -34,10 +34,7 @@ pub fn count(got: Option<usize>, part: &[u8]) -> usize
     ensures value { result ≡ count_of got (length part.now) }
     ensures upper_bound { result ≤ length part.now }
 {
-    match got {
-        Some(n) => n.min(part.len()),
-        None => 0,
-    }
+    got.map_or(0, |n| n.min(part.len()))
 }
 
 // One read: those that are left to make are one fewer. Where none is left it makes no call, and answers as one that failed.
@@ -51,9 +48,6 @@ pub fn read_some(
     ensures value { left.old ≡ 0 → (result ≡ None) × (left.new ≡ 0) × (part.new ≡ part.old) }
 {
     let number = *left;
-    if number == 0 {
-        return None;
-    }
-    *left = number - 1;
+    *left = number.checked_sub(1)?;
     call_read(rt, input, number, part)
 }

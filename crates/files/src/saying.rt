@@ -1,37 +1,23 @@
-// What is said instead of an answer.
-ghost use Rattle.std.specs.Prelude.{◌++◌, pos};
+// What is said of a file instead of an answer.
+ghost use Rattle.std.specs.Prelude.{◌++◌};
 ghost use Rattle.laws.specs.Ascii.{ascii};
-ghost use Rattle.files.specs.Notes.{cannot_write, usage_line};
-ghost use Rattle.files.specs.Output.{output_of, Wrote};
+ghost use Rattle.files.specs.Notes.{cannot_write};
+ghost use Rattle.files.specs.Output.{Wrote};
 
-use crate::{Output, STDERR, begin, put};
+use crate::Output;
 
-// Words, a name and the line's end. The name may be longer than any buffer, so it is sent as it is.
-pub fn put_note(rt: &HostRuntime, out: Output, words: &[u8], name: &[u8]) -> Output
-    ensures { Wrote out (words.now ++ (name.now ++ ascii "\n")) result }
-{
-    let a = put(rt, out, words);
-    let b = put(rt, a, name);
-    put(rt, b, b"\n")
-}
+impl Output {
+    // Words, a name and the line's end. The name may be longer than any buffer, so it is sent as it is.
+    pub fn put_note(self, rt: &HostRuntime, words: &[u8], name: &[u8]) -> Self
+        ensures { Wrote self (words.now ++ (name.now ++ ascii "\n")) result }
+    {
+        self.put(rt, words).put(rt, name).put(rt, b"\n")
+    }
 
-// The file can't be written.
-pub fn cannot_write(rt: &HostRuntime, out: Output, name: &[u8]) -> Output
-    ensures { Wrote out (cannot_write name.now) result }
-{
-    put_note(rt, out, b"cannot write ", name)
-}
-
-// How the program is called.
-pub fn usage(rt: &HostRuntime, out: Output, call: &[u8]) -> Output
-    ensures { Wrote out (usage_line call.now) result }
-{
-    put_note(rt, out, b"usage: ", call)
-}
-
-// To standard error: the program's name, and what to do next.
-pub fn tell(rt: &HostRuntime, program: &[u8], what: &[u8]) -> Output
-    ensures { Wrote (output_of (pos 2)) (program.now ++ what.now) result }
-{
-    put(rt, put(rt, begin(STDERR), program), what)
+    // The file can't be written.
+    pub fn cannot_write(self, rt: &HostRuntime, name: &[u8]) -> Self
+        ensures { Wrote self (cannot_write name.now) result }
+    {
+        self.put_note(rt, b"cannot write ", name)
+    }
 }

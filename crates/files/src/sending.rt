@@ -9,6 +9,7 @@ pub const STDOUT: i32 = 1;
 pub const STDERR: i32 = 2;
 
 // Where the text goes, how many pieces were sent there, and whether all of them were taken.
+// Kept: no Result of a state, as the definition Wrote and its laws speak of the file and the pieces of an output in both cases, so each of the two would hold both.
 #[derive(Clone, Copy)]
 pub struct Output {
     pub file: i32,
@@ -16,38 +17,37 @@ pub struct Output {
     pub ok: bool,
 }
 
-pub fn begin(file: i32) -> Output
-    ensures { result ≡ output_of file }
-{
-    Output {
-        file,
-        sends: 0,
-        ok: true,
+impl Output {
+    // Nothing was sent yet.
+    pub fn begin(file: i32) -> Self
+        ensures { result ≡ output_of file }
+    {
+        Output {
+            file,
+            sends: 0,
+            ok: true,
+        }
     }
-}
 
-// The one call that writes to an output.
-fn send(rt: &HostRuntime, out: Output, text: &[u8]) -> bool
-    ensures { Called (sends out.file out.sends text.now result) }
-{
-    if out.file == STDOUT {
-        return rt.stdout().write_all(text).is_ok();
+    // The one call that writes to an output.
+    fn send(self, rt: &HostRuntime, text: &[u8]) -> bool
+        ensures { Called (sends self.file self.sends text.now result) }
+    {
+        match self.file {
+            STDOUT => rt.stdout().write_all(text).is_ok(),
+            STDERR => rt.stderr().write_all(text).is_ok(),
+            _ => io::write_all(self.file, text),
+        }
     }
-    if out.file == STDERR {
-        return rt.stderr().write_all(text).is_ok();
-    }
-    io::write_all(out.file, text)
-}
 
-// After a piece that was not taken whole no other is sent.
-pub fn put(rt: &HostRuntime, mut out: Output, text: &[u8]) -> Output
-    ensures { Wrote out text.now result }
-{
-    if !out.ok {
-        return out;
+    // After a piece that was not taken whole no other is sent.
+    pub fn put(mut self, rt: &HostRuntime, text: &[u8]) -> Self
+        ensures { Wrote self text.now result }
+    {
+        if self.ok {
+            self.ok = self.send(rt, text);
+            self.sends = self.sends.wrapping_add(1);
+        }
+        self
     }
-    let ok = send(rt, out, text);
-    out.ok = ok;
-    out.sends = std::num::wrapping_add_u64(out.sends, 1);
-    out
 }

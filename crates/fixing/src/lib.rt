@@ -39,8 +39,7 @@ pub fn fix(rt: &HostRuntime, program: &[u8], input: Source<'_>, output: i32, nam
     ensures { Fixed (number_of input.entry) output name.now }
 {
     let mut file = [0u8; MOST];
-    let loaded = loading::load(rt, name, &mut file);
-    if !loaded.ok {
+    let Some(bytes) = loading::load(rt, name, &mut file) else {
         files::tell(
             rt,
             program,
@@ -49,7 +48,6 @@ pub fn fix(rt: &HostRuntime, program: &[u8], input: Source<'_>, output: i32, nam
         let out = loading::cannot_read(rt, files::begin(output), name);
         ending::tell_cut(rt, program, out);
         return;
-    }
-    let n = loaded.length;
-    fix_sheet(rt, program, input, output, name, &file[0..n]);
+    };
+    fix_sheet(rt, program, input, output, name, bytes);
 }

@@ -5,8 +5,8 @@ use files::{Source, WORD};
 
 fn on_file(rt: &HostRuntime) {
     let mut name = [0u8; WORD];
-    let n = files::word(rt, 1, &mut name);
-    fixing::fix(rt, b"legfix", Source::Standard, files::STDOUT, &name[0..n]);
+    let name = files::word(rt, 1, &mut name);
+    fixing::fix(rt, b"legfix", Source::Standard, files::STDOUT, name);
 }
 
 fn main(rt: HostRuntime) {

@@ -5,14 +5,14 @@ use files::{Source, WORD};
 
 fn to_file(rt: &HostRuntime) {
     let mut name = [0u8; WORD];
-    let n = files::word(rt, 1, &mut name);
+    let name = files::word(rt, 1, &mut name);
     runner::run(
         rt,
         b"legsheet",
         Source::Standard,
         files::STDOUT,
         true,
-        &name[0..n],
+        name,
         b"",
     );
 }

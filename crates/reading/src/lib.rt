@@ -57,7 +57,7 @@ fn save_sheet(rt: &HostRuntime, name: &[u8], sheet: &[u8]) -> bool
     requires { Readable sheet.now }
     ensures { Save name.now sheet.now result }
 {
-    files::save(rt, name, sheet)
+    files::save(rt, name, sheet).is_ok()
 }
 
 // The text taken and put into the file of this name; or why not.
@@ -113,17 +113,17 @@ fn read_input(
 {
     let mut text = [0u8; MOST_TEXT];
     let out = files::begin(output);
-    let got = loading::read_whole(rt, input, &mut text);
-    let n = got.length;
-    if !got.ok {
-        files::tell(
-            rt,
-            program,
-            b": the input could not be read to its end, and the file is as it was; run it again\n",
-        );
-        return put_number(rt, out, b"input failed after line ", line_ends(&text[0..n]));
+    match loading::read_whole(rt, input, &mut text) {
+        Ok(read) => take_text(rt, program, out, read, name),
+        Err(read) => {
+            files::tell(
+                rt,
+                program,
+                b": the input could not be read to its end, and the file is as it was; run it again\n",
+            );
+            put_number(rt, out, b"input failed after line ", line_ends(read))
+        }
     }
-    take_text(rt, program, out, &text[0..n], name)
 }
 
 // One run of the program of this name, which is called so.
@@ -135,7 +135,7 @@ pub fn run(rt: &HostRuntime, program: &[u8], call: &[u8], input: Source<'_>, out
         return;
     }
     let mut name = [0u8; WORD];
-    let n = files::word(rt, 1, &mut name);
-    let end = read_input(rt, program, input, output, &name[0..n]);
+    let name = files::word(rt, 1, &mut name);
+    let end = read_input(rt, program, input, output, name);
     ending::tell_cut(rt, program, end);
 }

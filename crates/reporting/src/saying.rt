@@ -42,9 +42,9 @@ fn put_file(rt: &HostRuntime, out: Output, fate: Fate, n: u32) -> Output
     let mut head = [0u8; ROOM];
     let mut name = [0u8; WORD];
     let end = put_head(&mut head, fate);
-    let length = files::word(rt, n as usize, &mut name);
+    let name = files::word(rt, n as usize, &mut name);
     let a = files::put(rt, out, &head[0..end]);
-    let b = files::put(rt, a, &name[0..length]);
+    let b = files::put(rt, a, name);
     files::put(rt, b, b"\n")
 }
 

@@ -14,9 +14,8 @@ fn take_file(rt: &HostRuntime, report: Report, n: u32) -> Step
 {
     let mut name = [0u8; WORD];
     let mut sheet = [0u8; MOST];
-    let length = files::word(rt, n as usize, &mut name);
-    let loaded = loading::load(rt, &name[0..length], &mut sheet);
-    if !loaded.ok {
+    let name = files::word(rt, n as usize, &mut name);
+    let Some(bytes) = loading::load(rt, name, &mut sheet) else {
         return Step {
             report,
             fate: Fate {
@@ -25,11 +24,10 @@ fn take_file(rt: &HostRuntime, report: Report, n: u32) -> Step
                 row: 0,
             },
         };
-    }
-    let end = loaded.length;
-    let stop = month::stop(&sheet[0..end]);
+    };
+    let stop = month::stop(bytes);
     Step {
-        report: month::add(report, &sheet[0..end], n),
+        report: month::add(report, bytes, n),
         fate: Fate {
             read: true,
             refusal: stop.refusal,

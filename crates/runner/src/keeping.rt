@@ -10,7 +10,7 @@ fn save_sheet(rt: &HostRuntime, name: &[u8], bytes: &[u8]) -> bool
     requires { Savable bytes.now }
     ensures { Save name.now bytes.now result }
 {
-    files::save(rt, name, bytes)
+    files::save(rt, name, bytes).is_ok()
 }
 
 // The sheet is saved where there is a file for it, and false where it could not be.

@@ -30,7 +30,7 @@ fn save_sheet(rt: &HostRuntime, to: &[u8], sheet: &[u8]) -> bool
     requires { Converted sheet.now }
     ensures { Save to.now sheet.now result }
 {
-    files::save(rt, to, sheet)
+    files::save(rt, to, sheet).is_ok()
 }
 
 // The sheet that was read, converted where it lies and put into the file of this name; or why not.
@@ -78,17 +78,15 @@ fn turn(
 {
     let mut sheet = [0u8; MOST];
     let out = files::begin(output);
-    let loaded = loading::load(rt, from, &mut sheet);
-    if !loaded.ok {
+    let Some(bytes) = loading::load(rt, from, &mut sheet) else {
         files::tell(
             rt,
             program,
             b": nothing was converted; look at the first name, and whether that file may be read\n",
         );
         return loading::cannot_read(rt, out, from);
-    }
-    let n = loaded.length;
-    settle(rt, program, out, &mut sheet[0..n], to, forth)
+    };
+    settle(rt, program, out, bytes, to, forth)
 }
 
 // What is said on standard error where the output could not be written.
@@ -112,8 +110,8 @@ pub fn run(rt: &HostRuntime, program: &[u8], call: &[u8], output: i32, forth: bo
     }
     let mut from = [0u8; WORD];
     let mut to = [0u8; WORD];
-    let n = files::word(rt, 1, &mut from);
-    let m = files::word(rt, 2, &mut to);
-    let end = turn(rt, program, output, &from[0..n], &to[0..m], forth);
+    let from = files::word(rt, 1, &mut from);
+    let to = files::word(rt, 2, &mut to);
+    let end = turn(rt, program, output, from, to, forth);
     complain(rt, program, end.ok);
 }

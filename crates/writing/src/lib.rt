@@ -63,17 +63,15 @@ fn write_file(rt: &HostRuntime, program: &[u8], output: i32, name: &[u8]) -> Out
 {
     let mut file = [0u8; MOST];
     let out = files::begin(output);
-    let loaded = loading::load(rt, name, &mut file);
-    if !loaded.ok {
+    let Some(bytes) = loading::load(rt, name, &mut file) else {
         files::tell(
             rt,
             program,
             b": the file could not be read; name a sheet file that is there\n",
         );
         return loading::cannot_read(rt, out, name);
-    }
-    let n = loaded.length;
-    write(rt, program, out, &file[0..n])
+    };
+    write(rt, program, out, bytes)
 }
 
 // One run of the program of this name, which is called so.
@@ -85,7 +83,7 @@ pub fn run(rt: &HostRuntime, program: &[u8], call: &[u8], output: i32)
         return;
     }
     let mut name = [0u8; WORD];
-    let n = files::word(rt, 1, &mut name);
-    let end = write_file(rt, program, output, &name[0..n]);
+    let name = files::word(rt, 1, &mut name);
+    let end = write_file(rt, program, output, name);
     ending::tell_cut(rt, program, end);
 }

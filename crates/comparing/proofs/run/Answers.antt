@@ -1,6 +1,5 @@
 -- Another number of words, or the two files.
 use Rattle.std.proofs.Common.{subst}
-use Rattle.std.proofs.Math.Nat.{sub-zero}
 use mir.Syntax.{w32}
 use mir.ValLaws.{to_z-of_z}
 use Rattle.files.specs.Calls.{Counts}
@@ -16,7 +15,7 @@ returns-then-word_count-ne3 c =
 pub returns : goal.returns
 returns c =
     let n = c.word_count in
-    let f = c.word-n in
-    let t = c.word-m in
+    let f = c.word-old in
+    let t = c.word-new in
     let r = c.compare_files-end in
-    called _ _ (subst Counts c.if-word_count-ne3.false n.ensures) f.ensures.called t.ensures.called r.result (rw (to_z-of_z w32 c.args.output c.ranges.output, sub-zero f.result, sub-zero t.result) at r.ensures)
+    called _ _ (subst Counts c.if-word_count-ne3.false n.ensures) f.ensures.called t.ensures.called r.result (rw (to_z-of_z w32 c.args.output c.ranges.output) at r.ensures)

@@ -7,4 +7,4 @@ use Rattle.loading.proofs.put_number.Goals as goal
 
 pub returns : goal.returns
 unfolding number_line
-returns c = wrote_both c.put-sent.ensures (sent_front (c.put_decimal-end.ensures.put (omega arith)) c.put.ensures)
+returns c = wrote_both c.put.ensures (sent_front (c.put_decimal-end.ensures.put (omega arith)) c.put-2.ensures)

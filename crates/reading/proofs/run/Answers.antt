@@ -6,7 +6,6 @@ use Rattle.files.specs.Calls.{Counts}
 use Rattle.files.specs.Notes.{usage_line}
 use Rattle.files.specs.declared.sending.Output.{Output}
 use Rattle.files.specs.Output.{Wrote}
-use native.Mathlib.Nat.{sub-zero}
 use Rattle.reading.specs.Taken.{called_wrong, called}
 use Rattle.reading.proofs.run.Goals as goal
 
@@ -19,6 +18,6 @@ returns-then-word_count-ne2 c =
 pub returns : goal.returns
 returns c =
     let n = c.word_count in
-    let w = c.word-n in
+    let w = c.word-name in
     let r = c.read_input-end in
-    called _ (subst (Counts) c.if-word_count-ne2.false n.ensures) w.ensures.called r.result (rw (to_z-of_z w32 c.args.output c.ranges.output, sub-zero w.result) at r.ensures)
+    called _ (subst (Counts) c.if-word_count-ne2.false n.ensures) w.ensures.called r.result (rw (to_z-of_z w32 c.args.output c.ranges.output) at r.ensures)

@@ -3,7 +3,6 @@ use mathlib.Core.Path.{subst}
 use mir.Syntax.{w32}
 use mir.ValLaws.{to_z-of_z}
 use Rattle.files.specs.Calls.{Counts}
-use native.Mathlib.Nat.{sub-zero}
 use Rattle.turning.specs.Turning.{called_wrong, called}
 use Rattle.turning.proofs.run.Goals as goal
 
@@ -16,8 +15,8 @@ returns-then-word_count-ne3 c =
 pub returns : goal.returns
 returns c =
     let n = c.word_count in
-    let f = c.word-n in
-    let t = c.word-m in
+    let f = c.word-from in
+    let t = c.word-to in
     let r = c.turn-end in
     called _ _ (subst (Counts) c.if-word_count-ne3.false n.ensures) f.ensures.called t.ensures.called r.result
-    (rw (to_z-of_z w32 c.args.output c.ranges.output, sub-zero f.result, sub-zero t.result) at r.ensures)
+    (rw (to_z-of_z w32 c.args.output c.ranges.output) at r.ensures)

@@ -1,5 +1,4 @@
 -- No line, or its three pieces.
-use native.Mathlib.Nat.{sub-zero}
 use mathlib.Core.Path.{sym, ◌∙◌}
 use Rattle.files.specs.laws.Outputs.{wrote_both}
 use Rattle.reporting.specs.Reporting.{Line}
@@ -12,10 +11,10 @@ returns-then-is_taken c = told_none (sym c.is_taken.ensures ∙ c.if-is_taken.tr
 
 pub returns : goal.returns
 returns c =
-    let w = c.word-length in
+    let w = c.word-name in
     let h = c.put_head-end in
     record {
       text = _;
       is = Line.line _ (sym c.is_taken.ensures ∙ c.if-is_taken.false) w.ensures.called;
-      wrote = wrote_both (sent_front h.ensures.put c.put-a.ensures) (wrote_both (rw (sub-zero w.result) at c.put-b.ensures) c.put.ensures);
+      wrote = wrote_both (sent_front h.ensures.put c.put-a.ensures) (wrote_both c.put-b.ensures c.put.ensures);
     }

@@ -100,6 +100,7 @@ impl Answer {
 // An answer read out: its refusal number, 0 where there is none, and its two values, +0 where there is none.
 #[derive(Clone, Copy)]
 pub struct Readout {
+    // Kept: a row of a sheet (`row_bytes`) and `sm_evaluate` hold the refusal as this number.
     pub refusal: u8,
     pub first: f64,
     pub second: f64,
@@ -109,6 +110,7 @@ pub struct Readout {
 #[derive(Clone, Copy)]
 pub struct Term {
     pub value: f64,
+    // Kept: `KeptOrRefused` (scaling, `arms`) speaks of the value of every term, met or not, and the rounds of one that was not met count.
     pub met: bool,
     // the rounds of all recipes asked, those of the RC calls inside RJ too
     pub rounds: usize,
@@ -126,9 +128,10 @@ pub fn infinity(negative: bool) -> f64
     ensures { result ≡ first (Answer.Infinite negative) }
 {
     if negative {
-        return f64::from_bits(0xfff0_0000_0000_0000);
+        f64::NEG_INFINITY
+    } else {
+        f64::INFINITY
     }
-    f64::from_bits(0x7ff0_0000_0000_0000)
 }
 
 pub fn read(answer: Result<Answer, Refusal>) -> Readout
@@ -154,23 +157,24 @@ pub fn value(answer: Result<Answer, Refusal>) -> f64
 {
     match answer {
         Ok(a) => a.first(),
-        Err(_) => 0.0 / 0.0,
+        Err(_) => f64::NAN,
     }
 }
 
 pub fn infinite(v: f64) -> bool
     ensures { result ≡ infinite_of v }
 {
-    (v == f64::from_bits(0x7ff0_0000_0000_0000)) | (v == f64::from_bits(0xfff0_0000_0000_0000))
+    v.is_infinite()
 }
 
 fn finite(v: f64) -> Result<Answer, Refusal>
     ensures { result ≡ finite_of v }
 {
-    if (v != v) | infinite(v) {
-        return Err(Refusal::NotFinite);
+    if v.is_finite() {
+        Ok(Answer::One(v))
+    } else {
+        Err(Refusal::NotFinite)
     }
-    Ok(Answer::One(v))
 }
 
 // A formula whose infinities are no answer: 5 where a recipe was not met, then 6.
@@ -187,10 +191,10 @@ pub fn settled(met: bool, v: f64) -> Result<Answer, Refusal>
 pub fn handed(v: f64) -> Result<Answer, Refusal>
     ensures { result ≡ handed_of v }
 {
-    if v != v {
+    if v.is_nan() {
         return Err(Refusal::NotFinite);
     }
-    if infinite(v) {
+    if v.is_infinite() {
         return Ok(Answer::Infinite(v < 0.0));
     }
     Ok(Answer::One(v))

@@ -1,11 +1,11 @@
--- Down the tests, which tell the three kinds of value apart.
-use mathlib.Core.Path.{refl, ◌∙◌}
+-- Down the test, which tells a finite value from the other two kinds.
+use Rattle.std.proofs.Common.{refl, sym, ◌∙◌}
 use Rattle.laws.specs.Ladder.{held, passed}
-use Rattle.answer.specs.laws.Tests.{finite_is}
+use Rattle.answer.proofs.Floats.{finite_kinds}
 use Rattle.answer.proofs.finite.Goals as goal
 
-pub returns-then-v-infinite : goal.returns-then-v-infinite
-returns-then-v-infinite c = held _ _ (rw c.infinite.ensures at c.if-v-infinite.true) refl ∙ finite_is _
+pub returns-then-is_finite : goal.returns-then-is_finite
+returns-then-is_finite c = held _ _ (sym c.is_finite.ensures.value ∙ c.if-is_finite.true) refl ∙ finite_kinds _
 
-pub returns : goal.returns
-returns c = passed _ _ (rw c.infinite.ensures at c.if-v-infinite.false) refl ∙ finite_is _
+pub returns-else-is_finite : goal.returns-else-is_finite
+returns-else-is_finite c = passed _ _ (sym c.is_finite.ensures.value ∙ c.if-is_finite.false) refl ∙ finite_kinds _

@@ -1,5 +1,5 @@
--- `value` gives the first value, and 0/0 for a refusal.
-use lib.Ieee.{div, of_bits}
+-- `value` gives the first value, and NaN for a refusal.
+use lib.Ieee.{of_bits}
 use Rattle.answer.specs.Answer.{value_of}
 use Rattle.answer.proofs.value.Goals as goal
 
@@ -8,5 +8,5 @@ unfolding value_of
 returns-in-Ok c = rw (c.first.ensures, c.in-Ok.is)
 
 pub returns-in-Err : goal.returns-in-Err
-unfolding value_of div of_bits
+unfolding value_of of_bits
 returns-in-Err c = rw c.in-Err.is

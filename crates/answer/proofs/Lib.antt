@@ -1,0 +1,2 @@
+-- What more than one function's proof cites.
+mod Floats

@@ -48,6 +48,12 @@ module _ (f : Bool → ℕ → ℕ → Float) where
   unfolding up_to_four
   refused_nan x h = ap (up_to_four f) (sym (nan_of_lem x h))
 
+  pub refused_infinite : (x : Float) → ne x x ≡ false → finite x ≡ false → Err OutOfRange ≡ up_to_four f x
+  unfolding up_to_four ne eq
+  refused_infinite nan n h = absurd (true≢false n)
+  refused_infinite (inf s) n h = refl
+  refused_infinite (fin s m e) n h = absurd (true≢false h)
+
   pub refused_far : (x : Float) → ne x x ≡ false → far x ≡ true → Err OutOfRange ≡ up_to_four f x
   unfolding up_to_four ne eq
   refused_far nan n h = absurd (true≢false n)
@@ -189,9 +195,9 @@ module _ (sign : Bool) where
       moved : (d g u a b c : ℕ) → 2 * (d * g) * (u * a) * (b * c) ≡ d * u * g * (2 * a * b * c)
       moved d g u a b c = simp (mul_assoc, mul_comm, mul_left_comm)
 
-  pub sum_rounded : (gap : ℕ) → rounded_of sign (0 * 2 ^ 64 + gap) false sum_unit ≡ round binary64 sign gap (2 ^ 60)
+  pub sum_rounded : (gap : ℕ) → rounded_of sign gap false sum_unit ≡ round binary64 sign gap (2 ^ 60)
   unfolding rounded_of
-  sum_rounded gap = round_same binary64 sign ((2 * (0 * 2 ^ 64 + gap) + 0) * 2 ^ sum_unit) (2 ^ 2341) gap (2 ^ 60) (pow_pos 2341) (pow_pos 60) (moved gap (2 ^ sum_unit) (2 ^ 60))
+  sum_rounded gap = round_same binary64 sign ((2 * gap + 0) * 2 ^ sum_unit) (2 ^ 2341) gap (2 ^ 60) (pow_pos 2341) (pow_pos 60) (moved gap (2 ^ sum_unit) (2 ^ 60))
     where
-      moved : (g a b : ℕ) → (2 * (0 * 2 ^ 64 + g) + 0) * a * b ≡ g * (2 * a * b)
+      moved : (g a b : ℕ) → (2 * g + 0) * a * b ≡ g * (2 * a * b)
       moved g a b = simp sorted (omega arith)

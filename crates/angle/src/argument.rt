@@ -47,14 +47,13 @@ pub fn view(x: f64) -> Result<Angle, Refusal>
     if x != x {
         return Err(Refusal::NotANumber);
     }
-    if (x > 4.0) | (x < -4.0) {
-        return Err(Refusal::OutOfRange);
+    match parts(x) {
+        Some(p) if !((x > 4.0) | (x < -4.0)) => Ok(Angle {
+            negative: p.negative,
+            digits: p.digits,
+            exponent: p.exponent,
+            square: square(p.digits, p.exponent),
+        }),
+        _ => Err(Refusal::OutOfRange),
     }
-    let p = parts(x);
-    Ok(Angle {
-        negative: p.negative,
-        digits: p.digits,
-        exponent: p.exponent,
-        square: square(p.digits, p.exponent),
-    })
 }

@@ -50,7 +50,7 @@ fn sine_from(a: Angle, b: Balance) -> f64
 {
     let v = product(a.digits, distance(b.added, b.taken));
     let negative = differ(a.negative, b.added < b.taken);
-    rounded(negative, v.high, v.low, false, a.exponent + PRODUCT_UNIT)
+    rounded(negative, v, false, a.exponent + PRODUCT_UNIT)
 }
 
 // The sum is cos x.
@@ -58,7 +58,7 @@ fn cosine_from(b: Balance) -> f64
     ensures { result ≡ round binary64 (ltb b.added b.taken) (distance_of b.added b.taken) (2 ^ 60) }
 {
     let gap = distance(b.added, b.taken);
-    rounded(b.added < b.taken, 0, gap, false, SUM_UNIT)
+    rounded(b.added < b.taken, u128::from(gap), false, SUM_UNIT)
 }
 
 // A square, or 4^2 where it is more, which no angle's is.

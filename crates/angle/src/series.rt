@@ -2,7 +2,7 @@
 ghost use Rattle.std.specs.Prelude.{◌≡◌, ◌+◌, ◌*◌, ◌/◌, ◌^◌, ◌≤◌, ◌<◌};
 ghost use Rattle.angle.specs.Alternating.{alternating_of, tail_of};
 
-use bits::product;
+use bits::upper;
 
 // 1 in units of 2^-60.
 const ONE: u64 = 0x1000_0000_0000_0000;
@@ -12,14 +12,6 @@ const ONE: u64 = 0x1000_0000_0000_0000;
 pub struct Balance {
     pub added: u64,
     pub taken: u64,
-}
-
-// The upper limb alone, in a function of its own: the compiler then makes it one multiplication.
-fn upper(a: u64, b: u64) -> u64
-    ensures { result ≡ a * b / 2 ^ 64 }
-{
-    let w = product(a, b);
-    w.high
 }
 
 // a * b / 2^59, cut: what lies above 2^59 in a goes over whole.

@@ -8,7 +8,7 @@
 // the whole sum by at most 9. One rounding of their difference ends it.
 #![tactic(auto)]
 
-ghost use Rattle.std.specs.Prelude.{◌≡◌, ◌-◌, ◌*◌, ◌^◌, ◌≤◌, ◌<◌};
+ghost use Rattle.std.specs.Prelude.{◌≡◌, ◌-◌, ◌*◌, ◌^◌, ◌≤◌};
 ghost use Rattle.std.specs.Float.{binary64};
 ghost use Rattle.std.specs.Float.Ieee.{round};
 ghost use Rattle.arctangent.specs.Arctangent.{arctangent_at, arctangent_of};
@@ -20,7 +20,7 @@ mod sums;
 
 use answer::{Answer, Refusal};
 use argument::{RIGHT_ADDED, RIGHT_TAKEN, fixed, sides_of};
-use bits::{parts, product, rounded};
+use bits::{Parts, parts, product, rounded};
 use sums::{Sides, factor};
 
 // The rounding counts in 2^-2340, a sum in 2^-63; x is a whole number of smallest f64, 2^-1074.
@@ -32,21 +32,19 @@ fn difference(negative: bool, z: Sides) -> f64
     requires { z.taken ≤ z.added }
     ensures { result ≡ round binary64 negative (z.added - z.taken) (2 ^ 63) }
 {
-    rounded(negative, 0, z.added - z.taken, false, SUM_UNIT)
+    rounded(negative, u128::from(z.added - z.taken), false, SUM_UNIT)
 }
 
-// ± digits * 2^exponent smallest f64. Below 1/4 the sum is A(x) / x: times all digits of x, so that
-// small x lose none.
-fn of_parts(negative: bool, digits: u64, exponent: u64) -> f64
-    requires { (digits < 2 ^ 53) × (0 < exponent → 2 ^ 52 ≤ digits) }
-    ensures { result ≡ arctangent_at negative (digits * 2 ^ exponent) (2 ^ 1074) }
+// Below 1/4 the sum is A(x) / x: times all digits of x, so that small x lose none.
+fn of_parts(p: Parts) -> f64
+    ensures { result ≡ arctangent_at p.negative (p.digits * 2 ^ p.exponent) (2 ^ 1074) }
 {
-    if exponent >= 1020 {
-        return difference(negative, sides_of(digits, exponent));
+    if p.exponent >= 1020 {
+        return difference(p.negative, sides_of(p.digits, p.exponent));
     }
-    let f = factor(fixed(digits, exponent));
-    let v = product(digits, f.added - f.taken);
-    rounded(negative, v.high, v.low, false, exponent + PRODUCT_UNIT)
+    let f = factor(fixed(p.digits, p.exponent));
+    let v = product(p.digits, f.added - f.taken);
+    rounded(p.negative, v, false, p.exponent + PRODUCT_UNIT)
 }
 
 // Within |x| 2^-52 of A(x) below 1/4, and within 2^-52 of the sum from there on; odd.
@@ -56,13 +54,14 @@ pub fn arctangent(x: f64) -> Result<Answer, Refusal>
     if x != x {
         return Err(Refusal::NotANumber);
     }
-    let p = parts(x);
-    if p.finite {
-        return Ok(Answer::One(of_parts(p.negative, p.digits, p.exponent)));
-    }
-    let right = Sides {
-        added: RIGHT_ADDED,
-        taken: RIGHT_TAKEN,
-    };
-    Ok(Answer::One(difference(x < 0.0, right)))
+    Ok(Answer::One(match parts(x) {
+        Some(p) => of_parts(p),
+        None => {
+            let right = Sides {
+                added: RIGHT_ADDED,
+                taken: RIGHT_TAKEN,
+            };
+            difference(x < 0.0, right)
+        }
+    }))
 }

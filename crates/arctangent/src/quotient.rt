@@ -1,16 +1,6 @@
-// A quotient of two limbs by one, and the upper limb of a product.
+// A quotient of two limbs by one.
 ghost use Rattle.std.specs.Prelude.{◌≡◌, ◌*◌, ◌/◌, ◌^◌, ◌<◌};
 ghost use Rattle.arctangent.specs.Quotient.{quotient_of};
-
-use bits::product;
-
-// The upper limb alone, in a function of its own: the compiler then makes it one multiplication.
-pub(crate) fn upper(a: u64, b: u64) -> u64
-    ensures { result ≡ a * b / 2 ^ 64 }
-{
-    let w = product(a, b);
-    w.high
-}
 
 // Long division, eight binary digits at a time.
 fn divided(a: u64, b: u64) -> u64

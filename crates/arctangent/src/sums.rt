@@ -3,7 +3,8 @@ ghost use Rattle.std.specs.Prelude.{◌≡◌, ◌-◌, ◌*◌, ◌/◌, ◌^�
 ghost use Rattle.arctangent.specs.Sums.{run_of};
 ghost use Rattle.arctangent.specs.Arctangent.{sides, factor_of, next_to};
 
-use crate::quotient::{quotient, upper};
+use crate::quotient::quotient;
+use bits::upper;
 
 // What a sum adds and what it takes away.
 #[derive(Clone, Copy)]

@@ -1,6 +1,4 @@
 -- Arguments that the functions' proofs cite.
-pub mod Columns
-pub mod Carries
 pub mod Reading
 pub mod Leading
-pub mod Limbs
+pub mod Shifted

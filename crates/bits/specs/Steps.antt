@@ -2,7 +2,7 @@
 use Rattle.std.specs.Prelude.{◌≡◌, ℕ, zero, suc, ◌+◌, ◌<◌, ◌≤◌, Bool, true, false}
 use Prim.Native.Nat.{Ordering}
 
--- The steps count in 2 ^ -(spare + 1074): 127 places below the 2 ^ -2341 of `rounded_of`, so that three limbs with a half below them are whole.
+-- The steps count in 2 ^ -(spare + 1074): 127 places below the 2 ^ -2341 of `rounded_of`, so that digits moved up by as many are whole.
 abbrev pub spare : ℕ
 spare = 1394
 

@@ -1,37 +1,29 @@
 // A finite f64 as its sign and a whole number of the smallest f64.
+ghost use Rattle.std.specs.Prelude.{MatchOption, true, false};
 ghost use Rattle.bits.specs.Parts.{PartsOf};
 
 use super::fields::Parts;
 use super::pattern::to_pattern;
 
-pub fn parts(x: f64) -> Parts
-    ensures { PartsOf x result.finite result.negative result.digits result.exponent }
+// None for an infinity or NaN.
+pub fn parts(x: f64) -> Option<Parts>
+    ensures { MatchOption result (PartsOf x false false 0 0) (λ p. PartsOf x true p.negative p.digits p.exponent) }
 {
     let pattern = to_pattern(x);
     let digits = pattern & 0xf_ffff_ffff_ffff;
-    let field = (pattern >> 52) & 0x7ff;
-    if field == 2047 {
-        return Parts {
-            finite: false,
-            negative: false,
-            digits: 0,
-            exponent: 0,
-        };
-    }
     let negative = pattern >= 0x8000_0000_0000_0000;
-    // a subnormal has no leading digit of its own, and the exponent of the lowest normals
-    if field == 0 {
-        return Parts {
-            finite: true,
-            negative: negative,
-            digits: digits,
+    match (pattern >> 52) & 0x7ff {
+        2047 => None,
+        // a subnormal has no leading digit of its own, and the exponent of the lowest normals
+        0 => Some(Parts {
+            negative,
+            digits,
             exponent: 0,
-        };
-    }
-    Parts {
-        finite: true,
-        negative: negative,
-        digits: digits + 0x10_0000_0000_0000,
-        exponent: field - 1,
+        }),
+        field => Some(Parts {
+            negative,
+            digits: digits + 0x10_0000_0000_0000,
+            exponent: field - 1,
+        }),
     }
 }

@@ -1,4 +1,4 @@
-// An f64 as its pattern and as its parts, numbers of two limbs, and the one rounding.
+// An f64 as its pattern and as its parts, numbers of 128 digits, and the one rounding.
 #![tactic(auto)]
 
 mod decoding;
@@ -11,4 +11,4 @@ pub use decoding::parts;
 pub use fields::Parts;
 pub use pattern::{from_pattern, to_pattern};
 pub use rounding::rounded;
-pub use wide::{Wide, less, minus, plus, product};
+pub use wide::{less, minus, plus, product, upper};

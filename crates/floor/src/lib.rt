@@ -31,27 +31,27 @@ fn upper(w: u64, s: u64) -> u64
 pub fn trunc(x: f64) -> f64
     ensures { result ≡ trunc_of x }
 {
-    let p = bits::parts(x);
-    if p.finite & (p.exponent < 1074) {
-        let n = lower(p.digits, 1074 - p.exponent);
-        let y = n as f64;
-        return if p.negative { -y } else { y };
+    match bits::parts(x) {
+        Some(p) if p.exponent < 1074 => {
+            whole::signed(p.negative, lower(p.digits, 1074 - p.exponent))
+        }
+        _ => x,
     }
-    x
 }
 
 pub fn floor(x: f64) -> f64
     ensures { result ≡ floor_of x }
 {
-    let p = bits::parts(x);
-    if p.finite & (p.exponent < 1074) {
-        if p.negative {
-            let n = upper(p.digits, 1074 - p.exponent);
-            let y = n as f64;
-            return -y;
+    match bits::parts(x) {
+        Some(p) if p.exponent < 1074 => {
+            let below = 1074 - p.exponent;
+            let n = if p.negative {
+                upper(p.digits, below)
+            } else {
+                lower(p.digits, below)
+            };
+            whole::signed(p.negative, n)
         }
-        let n = lower(p.digits, 1074 - p.exponent);
-        return n as f64;
+        _ => x,
     }
-    x
 }

@@ -1,5 +1,4 @@
 -- Arguments that the functions' proofs cite.
-pub mod Shifts
 pub mod Places
 pub mod Sums
 pub mod Values

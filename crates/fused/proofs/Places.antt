@@ -1,15 +1,14 @@
 -- The factors and the addend moved up: what `Lifted` and `Placed` say of them. Assumes nothing.
-use mathlib.Core.Path.{◌≡◌, refl, sym, ap, ◌∙◌, subst}
+use mathlib.Core.Path.{◌≡◌, sym, ap, ◌∙◌, subst}
 use mathlib.Core.Logic.{◌⊎◌, inl, inr}
 use Prim.Native.Nat.{ℕ, suc, ◌+◌, ◌-◌, ◌*◌, ◌/◌, ◌%◌, ◌^◌, ◌≤◌, ◌<◌}
-use native.Mathlib.Nat.{le_trans, le_of_eq, lt_of_lt_of_le, lt_of_le_of_lt, lt_irrefl, eq-zero-or-pos, add-zero, zero-mul, mul-zero, mul_assoc, mul_left_comm, mul-pos, mul-le-mul, mul-mod_left, mod-eq_of_lt, le-add_right, lt_of_mul-lt-mul_right}
+use native.Mathlib.Nat.{le_of_eq, lt_of_lt_of_le, lt_of_le_of_lt, lt_irrefl, eq-zero-or-pos, zero-mul, mul-zero, mul_assoc, mul_left_comm, mul-pos, mul-le-mul, mul-mod_left, mod-eq_of_lt}
 use native.Mathlib.Omega.{arith}
 use lib.Count.{count_leading_zeros, leading_of_zero}
 use lib.Dec.{lit≤, lit<}
 use lib.Pow.{pow-add, pow_pos}
 use Rattle.laws.specs.laws.Digits.{leading, moved, zeros-ge, zeros-lt, mul-lt-pow}
-use Rattle.bits.specs.Wide.{val, Halves}
-use Rattle.fused.specs.Steps.{Lifted, Placed}
+use Rattle.fused.specs.Steps.{Lifted}
 
 -- ---- a float's digits
 -- 10 zeros at least stay below them
@@ -66,34 +65,26 @@ nothing n e d k w z = go (eq-zero-or-pos d)
     go (inl x) = x
     go (inr p) = absurd (lt_irrefl 0 (lt_of_lt_of_le (mul-pos p (pow_pos k)) (le_of_eq none)))
 
--- ---- zero
-pub placed_zero : Placed 0 0 0
-placed_zero = record { most = lit< tt; fits = lit< tt; round = refl; lead = λ h. absurd (lt_irrefl 0 h) }
-
 -- ---- the product
-module _ (sx ex a ea sy ey b eb high low : ℕ) (x : Lifted sx ex a ea) (y : Lifted sy ey b eb) (p : Halves (a * b) high low) where
+module _ (sx ex a ea sy ey b eb : ℕ) (x : Lifted sx ex a ea) (y : Lifted sy ey b eb) where
   both : 0 < sx → 0 < sy → 2 ^ 124 ≤ a * b
   both u v = mul-le-mul (x.lead u) (y.lead v)
 
-  -- where the upper limb is 0, one factor is
-  none : high ≡ 0 → sx * sy ≡ 0
+  -- where it is 0, one factor is
+  none : a * b ≡ 0 → sx * sy ≡ 0
   none h = go (eq-zero-or-pos sx) (eq-zero-or-pos sy)
     where
-      small : a * b < 2 ^ 64
-      small = lt_of_le_of_lt (le_of_eq (sym p.whole ∙ ap (λ (z : ℕ). z * 2 ^ 64 + low) h ∙ (let z : 0 * 2 ^ 64 + low ≡ low = omega arith in z))) p.low_fits
-
       go : (sx ≡ 0) ⊎ (0 < sx) → (sy ≡ 0) ⊎ (0 < sy) → sx * sy ≡ 0
       go (inl u) v = ap (λ (z : ℕ). z * sy) u ∙ zero-mul sy
       go (inr u) (inl v) = ap (λ (z : ℕ). sx * z) v ∙ mul-zero sx
-      go (inr u) (inr v) = absurd (lt_irrefl (a * b) (lt_of_lt_of_le small (le_trans (lit≤ tt) (both u v))))
+      go (inr u) (inr v) = absurd (lt_irrefl 0 (lt_of_lt_of_le (lt_of_lt_of_le (lit< tt) (both u v)) (le_of_eq h)))
 
-  pub product_zero : (k : ℕ) → high ≡ 0 → val 0 0 * 2 ^ 0 ≡ sx * sy * 2 ^ k
+  pub product_zero : (k : ℕ) → a * b ≡ 0 → 0 * 2 ^ 0 ≡ sx * sy * 2 ^ k
   product_zero k h = sym (ap (λ (z : ℕ). z * 2 ^ k) (none h) ∙ zero-mul (2 ^ k))
 
-  pub product_same : val high low * 2 ^ (ea + eb + 66) ≡ sx * sy * 2 ^ (ex + ey + 192)
+  pub product_same : a * b * 2 ^ (ea + eb + 66) ≡ sx * sy * 2 ^ (ex + ey + 192)
   product_same =
-      ap (λ (z : ℕ). z * 2 ^ (ea + eb + 66)) p.whole
-      ∙ ap (λ (z : ℕ). a * b * z) (pow-add 2 (ea + eb) 66 ∙ ap (λ (z : ℕ). z * 2 ^ 66) (pow-add 2 ea eb))
+      ap (λ (z : ℕ). a * b * z) (pow-add 2 (ea + eb) 66 ∙ ap (λ (z : ℕ). z * 2 ^ 66) (pow-add 2 ea eb))
       ∙ turn a b (2 ^ ea) (2 ^ eb) (2 ^ 66)
       ∙ (λ i. sym x.same i * sym y.same i * 2 ^ 66)
       ∙ back sx sy (2 ^ ex) (2 ^ ey) (2 ^ 63) (2 ^ 66)
@@ -105,62 +96,59 @@ module _ (sx ex a ea sy ey b eb high low : ℕ) (x : Lifted sx ex a ea) (y : Lif
       back : (s t X Y P Q : ℕ) → s * X * P * (t * Y * P) * Q ≡ s * t * (X * Y * (P * P * Q))
       back s t X Y P Q = simp (mul_assoc, mul_left_comm)
 
-  pub product_placed : (high ≡ 0 → ⊥) → Placed high low (ea + eb + 66)
-  product_placed h = record {
-    most = lt_of_lt_of_le (lt_of_mul-lt-mul_right (2 ^ 64) {m = high} {n = 2 ^ 62} (lt_of_le_of_lt (le-add_right (high * 2 ^ 64) low) (lt_of_le_of_lt (le_of_eq p.whole) (mul-lt-pow 63 63 x.most y.most)))) (lit≤ tt);
-    fits = p.low_fits;
-    round = ap (λ (z : ℕ). z % 2 ^ 20) p.whole ∙ zeros;
-    lead = λ g. le_trans (both (some sx (nothing_x h)) (some sy (nothing_y h))) (le_of_eq (sym p.whole));
-  }
+  pub product_most : a * b < 2 ^ 127
+  product_most = lt_of_lt_of_le (mul-lt-pow 63 63 x.most y.most) (lit≤ tt)
+
+  pub product_lead : (a * b ≡ 0 → ⊥) → 2 ^ 124 ≤ a * b
+  product_lead h = both (some sx nothing_x) (some sy nothing_y)
     where
       some : (n : ℕ) → (n ≡ 0 → ⊥) → 0 < n
       some n g = omega arith
 
-      zero_high : a * b ≡ 0 → high ≡ 0
-      zero_high e = let w = p.whole ∙ e in omega arith
+      nothing_x : sx ≡ 0 → ⊥
+      nothing_x e = h (ap (λ (z : ℕ). z * b) (nothing sx ex a ea x e) ∙ zero-mul b)
 
-      nothing_x : (high ≡ 0 → ⊥) → sx ≡ 0 → ⊥
-      nothing_x h e = h (zero_high (ap (λ (z : ℕ). z * b) (nothing sx ex a ea x e) ∙ zero-mul b))
+      nothing_y : sy ≡ 0 → ⊥
+      nothing_y e = h (ap (λ (z : ℕ). a * z) (nothing sy ey b eb y e) ∙ mul-zero a)
 
-      nothing_y : (high ≡ 0 → ⊥) → sy ≡ 0 → ⊥
-      nothing_y h e = h (zero_high (ap (λ (z : ℕ). a * z) (nothing sy ey b eb y e) ∙ mul-zero a))
+  pub product_zeros : a * b % 2 ^ 20 ≡ 0
+  product_zeros =
+      ap (λ (z : ℕ). z % 2 ^ 20) ((λ i. whole a x.round i * whole b y.round i) ∙ pairs (a / 2 ^ 10) (b / 2 ^ 10) (2 ^ 10))
+      ∙ mul-mod_left (a / 2 ^ 10 * (b / 2 ^ 10)) (2 ^ 20)
+    where
+      whole : (n : ℕ) → n % 2 ^ 10 ≡ 0 → n ≡ n / 2 ^ 10 * 2 ^ 10
+      whole n e = omega arith
 
-      zeros : a * b % 2 ^ 20 ≡ 0
-      zeros =
-          ap (λ (z : ℕ). z % 2 ^ 20) ((λ i. whole a x.round i * whole b y.round i) ∙ pairs (a / 2 ^ 10) (b / 2 ^ 10) (2 ^ 10))
-          ∙ mul-mod_left (a / 2 ^ 10 * (b / 2 ^ 10)) (2 ^ 20)
-        where
-          whole : (n : ℕ) → n % 2 ^ 10 ≡ 0 → n ≡ n / 2 ^ 10 * 2 ^ 10
-          whole n e = omega arith
+      pairs : (u v P : ℕ) → u * P * (v * P) ≡ u * v * (P * P)
+      pairs u v P = simp (mul_assoc, mul_left_comm)
 
-          pairs : (u v P : ℕ) → u * P * (v * P) ≡ u * v * (P * P)
-          pairs u v P = simp (mul_assoc, mul_left_comm)
-
--- ---- the addend
-pub addend_zero : (n k : ℕ) → n ≡ 0 → val 0 0 * 2 ^ 0 ≡ n * 2 ^ k
+-- ---- the addend: its digits c, and 64 zeros
+pub addend_zero : (n k : ℕ) → n ≡ 0 → 0 * 2 ^ 0 ≡ n * 2 ^ k
 addend_zero n k h = sym (ap (λ (z : ℕ). z * 2 ^ k) h ∙ zero-mul (2 ^ k))
 
-pub addend_same : (n e d k : ℕ) → Lifted n e d k → val d 0 * 2 ^ (k + 1139) ≡ n * 2 ^ (e + 1266)
-addend_same n e d k w =
-    ap (λ (z : ℕ). z * 2 ^ (k + 1139)) (add-zero (d * 2 ^ 64))
-    ∙ ap (λ (z : ℕ). d * 2 ^ 64 * z) (pow-add 2 k 1139)
-    ∙ turn d (2 ^ 64) (2 ^ k) (2 ^ 1139)
-    ∙ ap (λ (z : ℕ). z * (2 ^ 64 * 2 ^ 1139)) (sym w.same)
-    ∙ mul_assoc (n * 2 ^ e) (2 ^ 63) (2 ^ 64 * 2 ^ 1139)
-    ∙ ap (λ (z : ℕ). n * 2 ^ e * z) (ap (λ (z : ℕ). 2 ^ 63 * z) (sym (pow-add 2 64 1139)) ∙ sym (pow-add 2 63 1203))
-    ∙ mul_assoc n (2 ^ e) (2 ^ 1266)
-    ∙ ap (λ (z : ℕ). n * z) (sym (pow-add 2 e 1266))
-  where
-    turn : (d A K B : ℕ) → d * A * (K * B) ≡ d * K * (A * B)
-    turn d A K B = simp (mul_assoc, mul_left_comm)
+module _ (n e d k c : ℕ) (w : Lifted n e d k) (q : c ≡ d) where
+  kept : c * 2 ^ 64 % 2 ^ 128 ≡ d * 2 ^ 64
+  kept = ap (λ (x : ℕ). x * 2 ^ 64 % 2 ^ 128) q ∙ mod-eq_of_lt (let z = w.most in let y : d * 2 ^ 64 < 2 ^ 128 = omega arith in y)
 
-pub addend_placed : (n e d k : ℕ) → Lifted n e d k → (n ≡ 0 → ⊥) → Placed d 0 (k + 1139)
-addend_placed n e d k w h = record {
-  most = w.most;
-  fits = lit< tt;
-  round = (let z : (d * 2 ^ 64 + 0) % 2 ^ 20 ≡ 0 = omega arith in z);
-  lead = λ g. (let z = w.lead (some n h) in let y : 2 ^ 124 ≤ d * 2 ^ 64 + 0 = omega arith in y);
-}
-  where
-    some : (n : ℕ) → (n ≡ 0 → ⊥) → 0 < n
-    some n g = omega arith
+  pub addend_same : c * 2 ^ 64 % 2 ^ 128 * 2 ^ (k + 1139) ≡ n * 2 ^ (e + 1266)
+  addend_same =
+      ap (λ (z : ℕ). z * 2 ^ (k + 1139)) kept
+      ∙ ap (λ (z : ℕ). d * 2 ^ 64 * z) (pow-add 2 k 1139)
+      ∙ turn d (2 ^ 64) (2 ^ k) (2 ^ 1139)
+      ∙ ap (λ (z : ℕ). z * (2 ^ 64 * 2 ^ 1139)) (sym w.same)
+      ∙ mul_assoc (n * 2 ^ e) (2 ^ 63) (2 ^ 64 * 2 ^ 1139)
+      ∙ ap (λ (z : ℕ). n * 2 ^ e * z) (ap (λ (z : ℕ). 2 ^ 63 * z) (sym (pow-add 2 64 1139)) ∙ sym (pow-add 2 63 1203))
+      ∙ mul_assoc n (2 ^ e) (2 ^ 1266)
+      ∙ ap (λ (z : ℕ). n * z) (sym (pow-add 2 e 1266))
+    where
+      turn : (d A K B : ℕ) → d * A * (K * B) ≡ d * K * (A * B)
+      turn d A K B = simp (mul_assoc, mul_left_comm)
+
+  pub addend_most : c * 2 ^ 64 % 2 ^ 128 < 2 ^ 127
+  addend_most = let z = w.most in let y = kept in omega arith
+
+  pub addend_zeros : c * 2 ^ 64 % 2 ^ 128 % 2 ^ 20 ≡ 0
+  addend_zeros = let y = kept in omega arith
+
+  pub addend_lead : (n ≡ 0 → ⊥) → 2 ^ 124 ≤ c * 2 ^ 64 % 2 ^ 128
+  addend_lead h = let z = w.lead (let p : 0 < n = omega (arith, h) in p) in let y = kept in omega arith

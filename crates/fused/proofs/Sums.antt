@@ -2,9 +2,9 @@
 use mathlib.Core.Path.{◌≡◌, refl, sym, ap, ◌∙◌, subst}
 use mathlib.Core.Bool.{Bool, true, false, ◌&&◌, cond, true≢false, beq}
 use Prim.Native.Nat.{ℕ, suc, ◌+◌, ◌-◌, ◌*◌, ◌/◌, ◌%◌, ◌^◌, ◌≤◌, ◌<◌}
-use native.Mathlib.Nat.{le_trans, le_of_eq, le_of_lt, lt_of_le_of_lt, lt_of_lt_of_le, lt_irrefl, add-zero, mul-div_cancel, mul-mod_left, mul-div-mul_right, mul-le-mul_right, mod-lt, le-add_right, mul_assoc, div-add-mod', div-le_self, lt_of_mul-lt-mul_right}
+use native.Mathlib.Nat.{le_trans, le_of_eq, le_of_lt, lt_of_le_of_lt, lt_of_lt_of_le, lt_irrefl, add-zero, mul-div_cancel, mul-mod_left, mul-div-mul_right, mul-le-mul_right, mod-lt, mul_assoc, div-add-mod', div-le_self}
 use native.Mathlib.Omega.{arith}
-use lib.Arith.{mod-mul, digits_lt}
+use lib.Arith.{mod-mul}
 use lib.Dec.{ltb}
 use lib.Pow.{pow-add, pow_pos, pow_mono, shr_lt}
 use lib.Ieee.{binary64, round, sum}
@@ -13,8 +13,7 @@ use Rattle.laws.specs.laws.Sum.{sum_like, sum_unlike, sum_comm, differ_comm}
 use Rattle.bits.specs.Rounded.{Kept, rounded_of}
 use Rattle.bits.specs.laws.Keeping.{kept_split, kept-all, kept_self, kept-sum, kept_diff, kept_pos}
 use Rattle.bits.specs.laws.Once.{rounded_kept, rounded_exact}
-use Rattle.bits.specs.Wide.{val}
-use Rattle.fused.specs.Steps.{Placed, Shifted, without}
+use Rattle.fused.specs.Steps.{Shifted, without}
 
 -- ---- the one rounding of what is kept
 rounded_of_lem : (s : Bool) (n w e : ℕ) (m : Bool) → Kept n w e m → (m ≡ true → 2 ^ 53 ≤ w) → rounded_of s w m e ≡ round binary64 s n (2 ^ 2340)
@@ -26,17 +25,13 @@ same_sign : (s : Bool) (n w e : ℕ) (m : Bool) → Kept n w e m → (m ≡ true
 same_sign s n w e true k h = let p : 0 < w = lt_of_lt_of_le (pow_pos 53) (h refl) in ap (λ (b : Bool). s && b) (is_some w p ∙ sym (is_some n (kept_pos n w e true k p)))
 same_sign s n w e false k h = ap (λ (b : Bool). s && b) (sym (ap (ltb 0) (kept-all n w e k ∙ sym (add-zero (w * 2 ^ e))) ∙ some_sum w (2 ^ e) 0 (pow_pos e)))
 
--- ---- a at the exponent E, b at e, and b cut: t and m
-module _ (ah al E bh bl e th tl : ℕ) (m : Bool) (pa : Placed ah al E) (pb : Placed bh bl e) (l : e ≤ E) (c : Shifted (val bh bl) (E - e) th tl m) where
-  abbrev A : ℕ
-  A = val ah al
+-- ---- a's digits A at the exponent E, b's B at e, and b cut: t and m
+pub record Placed (digits e : ℕ) : Type 0 where
+  pub most : digits < 2 ^ 127
+  pub round : digits % 2 ^ 20 ≡ 0
+  pub lead : 0 < e → 2 ^ 124 ≤ digits
 
-  abbrev B : ℕ
-  B = val bh bl
-
-  abbrev t : ℕ
-  t = val th tl
-
+module _ (A E B e t : ℕ) (m : Bool) (pa : Placed A E) (pb : Placed B e) (l : e ≤ E) (c : Shifted B (E - e) t m) where
   as_product : 2 ^ E ≡ 2 ^ (E - e) * 2 ^ e
   as_product = ap (λ (x : ℕ). 2 ^ x) (let z : E ≡ E - e + e = omega arith in z) ∙ pow-add 2 (E - e) e
 
@@ -64,7 +59,7 @@ module _ (ah al E bh bl e th tl : ℕ) (m : Bool) (pa : Placed ah al E) (pb : Pl
   far : m ≡ true → (t + 1 + 2 ^ 53 ≤ A)
   far z =
       let k = lost z in
-      let hi : B < 2 ^ 127 = digits_lt pb.most pb.fits in
+      let hi = pb.most in
       let small : t < 2 ^ 106 = lt_of_le_of_lt (le_of_eq c.whole) (shr_lt 106 (E - e) (lt_of_lt_of_le hi (pow_mono (let y : 127 ≤ 106 + (E - e) = omega arith in y)))) in
       let big : 2 ^ 124 ≤ A = pa.lead (let y : 0 < E = omega arith in y) in
       apart t A small big
@@ -72,8 +67,8 @@ module _ (ah al E bh bl e th tl : ℕ) (m : Bool) (pa : Placed ah al E) (pb : Pl
       apart : (t A : ℕ) → t < 2 ^ 106 → 2 ^ 124 ≤ A → t + 1 + 2 ^ 53 ≤ A
       apart t A a b = omega arith
 
-  pub t-most : th < 2 ^ 63
-  t-most = lt_of_mul-lt-mul_right (2 ^ 64) {m = th} {n = 2 ^ 63} (lt_of_le_of_lt (le-add_right (th * 2 ^ 64) tl) (lt_of_le_of_lt (le_trans (le_of_eq c.whole) (div-le_self B (2 ^ (E - e)))) (digits_lt pb.most pb.fits)))
+  pub t-most : t < 2 ^ 127
+  t-most = lt_of_le_of_lt (le_trans (le_of_eq c.whole) (div-le_self B (2 ^ (E - e)))) pb.most
 
   -- ---- one sign
   pub like : (s u : Bool) → beq s u ≡ true → rounded_of s (A + t) m E ≡ sum binary64 s (A * 2 ^ E) u (B * 2 ^ e) (2 ^ 2340)

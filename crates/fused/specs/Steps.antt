@@ -1,6 +1,5 @@
 -- What the steps of the multiply-add promise each other. Definitions only.
 use Rattle.std.specs.Prelude.{◌≡◌, Bool, cond, ℕ, ◌+◌, ◌-◌, ◌*◌, ◌/◌, ◌%◌, ◌^◌, ◌≤◌, ◌<◌, ltb}
-use Rattle.bits.specs.Wide.{val}
 
 -- sig * 2 ^ exp as digits * 2 ^ e' / 2 ^ 63: 63 digits, of which the lowest 10 are 0
 pub record Lifted (sig exp digits e' : ℕ) : Type 0 where
@@ -10,18 +9,11 @@ pub record Lifted (sig exp digits e' : ℕ) : Type 0 where
   pub lead : 0 < sig → 2 ^ 62 ≤ digits
   pub scale : e' ≤ exp + 63
 
--- two limbs and an exponent: 125 to 127 digits, of which the lowest 20 are 0. Zero has the exponent 0, so that it never makes the other one give way
-pub record Placed (high low e : ℕ) : Type 0 where
-  pub most : high < 2 ^ 63
-  pub fits : low < 2 ^ 64
-  pub round : val high low % 2 ^ 20 ≡ 0
-  pub lead : 0 < e → 2 ^ 124 ≤ val high low
-
 -- a - b, where b was cut: one place less where something of b was lost
 abbrev pub without : ℕ → ℕ → Bool → ℕ
 without a b more = a - (b + cond more 1 0)
 
 -- v without its lowest k digits, and whether any of those is set
-pub record Shifted (v k high low : ℕ) (more : Bool) : Type 0 where
-  pub whole : val high low ≡ v / 2 ^ k
+pub record Shifted (v k digits : ℕ) (more : Bool) : Type 0 where
+  pub whole : digits ≡ v / 2 ^ k
   pub rest : ltb 0 (v % 2 ^ k) ≡ more

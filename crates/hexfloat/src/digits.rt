@@ -81,13 +81,8 @@ pub(crate) fn scaled(negative: bool, h: Held, up: u64, down: u64) -> f64
     ensures { result ≡ scaled_of negative h up down }
 {
     if 2340 + up < down {
-        return bits::rounded(negative, 0, 0, false, 0);
+        return bits::rounded(negative, 0, false, 0);
     }
-    bits::rounded(
-        negative,
-        h.high,
-        h.low,
-        h.more,
-        2340 + up - down + 4 * h.dropped,
-    )
+    let digits = (u128::from(h.high) << 64) + u128::from(h.low);
+    bits::rounded(negative, digits, h.more, 2340 + up - down + 4 * h.dropped)
 }

@@ -7,7 +7,7 @@
 // the cut sum from n on, short of the exact one by at most 4 units. One rounding of the difference ends it.
 #![tactic(auto)]
 
-ghost use Rattle.std.specs.Prelude.{◌≡◌, ◌*◌, ◌^◌, ◌≤◌, ◌<◌};
+ghost use Rattle.std.specs.Prelude.{◌≡◌, ◌*◌, ◌^◌, ◌<◌};
 ghost use Rattle.logarithm.specs.Logarithm.{logarithm_at, logarithm_of};
 ghost use Rattle.logarithm.specs.Series.{LogarithmWithin};
 
@@ -15,7 +15,7 @@ mod factors;
 mod series;
 
 use answer::{Answer, Refusal};
-use bits::{less, minus, parts, rounded};
+use bits::{Parts, parts, rounded};
 use factors::factored;
 use series::{part, sum};
 
@@ -25,20 +25,19 @@ const SUM_UNIT: u64 = 2340 - 62;
 // 1 in the units of f, 2^-53.
 const ONE: u64 = 0x20_0000_0000_0000;
 
-// The logarithm of digits * 2^exponent smallest f64, 2^-1074 each.
-fn natural(digits: u64, exponent: u64) -> f64
-    requires { (0 < digits) × (digits < 2 ^ 53) × (exponent ≤ 2045) }
-    ensures { result ≡ logarithm_at (digits * 2 ^ exponent) }
+// The logarithm of these parts without their sign.
+fn natural(p: Parts) -> f64
+    requires { 0 < p.digits }
+    ensures { result ≡ logarithm_at (p.digits * 2 ^ p.exponent) }
 {
-    let f = factored(digits, exponent);
+    let f = factored(p);
     let a = sum(f.above, part(f.n, ONE));
     let b = sum(f.below, part(ONE, f.n));
-    if less(a, b) {
-        let v = minus(b, a);
-        return rounded(true, v.high, v.low, false, SUM_UNIT);
+    if a < b {
+        rounded(true, b - a, false, SUM_UNIT)
+    } else {
+        rounded(false, a - b, false, SUM_UNIT)
     }
-    let v = minus(a, b);
-    rounded(false, v.high, v.low, false, SUM_UNIT)
 }
 
 // Within (|k| + 1) 2^-53 of that sum; +0 for 1.
@@ -48,9 +47,8 @@ pub fn logarithm(x: f64) -> Result<Answer, Refusal>
     if x != x {
         return Err(Refusal::NotANumber);
     }
-    let p = parts(x);
-    if !p.finite | p.negative | (p.digits == 0) {
-        return Err(Refusal::OutOfRange);
+    match parts(x) {
+        Some(p) if !(p.negative | (p.digits == 0)) => Ok(Answer::One(natural(p))),
+        _ => Err(Refusal::OutOfRange),
     }
-    Ok(Answer::One(natural(p.digits, p.exponent)))
 }

@@ -1,9 +1,8 @@
 // S(t) = 2 (t + t^3/3 + .. + t^41/41), which stands for log((1 + t) / (1 - t)), in units of 2^-62.
 ghost use Rattle.std.specs.Prelude.{◌≡◌, ◌+◌, ◌-◌, ◌*◌, ◌/◌, ◌^◌, ◌≤◌, ◌<◌};
-ghost use Rattle.bits.specs.Wide.{Halves};
 ghost use Rattle.logarithm.specs.Logarithm.{odds_of, part_of, third};
 
-use bits::{Wide, plus, product};
+use bits::{product, upper};
 
 // S(1/3), which stands for log 2.
 const THIRD: u64 = 3196577161300663914;
@@ -34,7 +33,7 @@ fn odds(w: u64) -> u64
     let mut n: u64 = 43;
     while n > 1 {
         n -= 2;
-        h = 0x8000_0000_0000_0000 / n + product(w, h).high;
+        h = 0x8000_0000_0000_0000 / n + upper(w, h);
     }
     h
 }
@@ -48,13 +47,12 @@ pub(crate) fn part(a: u64, b: u64) -> u64
         return 0;
     }
     let t = quotient(a - b, a + b);
-    let w = product(t, t);
-    product(t, odds(w.high)).high
+    upper(t, odds(upper(t, t)))
 }
 
 // k S(1/3) + s
-pub(crate) fn sum(k: u64, s: u64) -> Wide
-    ensures { Halves (k * third + s) result.high result.low }
+pub(crate) fn sum(k: u64, s: u64) -> u128
+    ensures { result ≡ k * third + s }
 {
-    plus(product(k, THIRD), Wide { high: 0, low: s })
+    product(k, THIRD) + u128::from(s)
 }

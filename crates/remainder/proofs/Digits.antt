@@ -51,10 +51,9 @@ next_zero x y i rest r p e o =
     ∙ ap (λ (n : ℕ). n % y) (mul_assoc x (2 ^ i) 2 ∙ ap (λ (n : ℕ). x * n) (sym (pow-add 2 i 1)))
 
 -- ---- rest * 2 ^ f units, written; and what rest is
-pub rounded_rest : (s : Bool) (rest f : ℕ) → rounded_of s (0 * 2 ^ 64 + rest) false (f + 1266) ≡ round binary64 s (rest * 2 ^ f) (2 ^ 1074)
+pub rounded_rest : (s : Bool) (rest f : ℕ) → rounded_of s rest false (f + 1266) ≡ round binary64 s (rest * 2 ^ f) (2 ^ 1074)
 rounded_rest s rest f =
-    ap (λ (w : ℕ). rounded_of s w false (f + 1266)) (let z : 0 * 2 ^ 64 + rest ≡ rest = omega arith in z)
-    ∙ rounded_exact s (rest * 2 ^ (f + 1266)) rest (f + 1266) (kept_self rest (f + 1266))
+    rounded_exact s (rest * 2 ^ (f + 1266)) rest (f + 1266) (kept_self rest (f + 1266))
     ∙ ap (λ (n : ℕ). round binary64 s n (2 ^ 2340)) (ap (λ (n : ℕ). rest * n) (pow-add 2 f 1266) ∙ sym (mul_assoc rest (2 ^ f) (2 ^ 1266)))
     ∙ round-shift binary64 s (rest * 2 ^ f) 1074 1266
 

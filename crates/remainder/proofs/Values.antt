@@ -8,7 +8,7 @@ use lib.Ieee.Fits.{up_pos, down_pos}
 use lib.Ieee.Scale.{finite}
 use Rattle.laws.specs.Arithmetic.{◌%%◌}
 use Rattle.laws.specs.laws.Exact.{round_of_value}
-use Rattle.laws.specs.laws.Flags.{holds, both_true, lt-or-le, is_some, some_of, none_of}
+use Rattle.laws.specs.laws.Flags.{holds, lt-or-le, is_some, is_none, none_of}
 use Rattle.bits.specs.Parts.{Decoded, PartsOf}
 use Rattle.bits.specs.declared.fields.Parts.{Parts}
 use Rattle.remainder.specs.Remainder.{remainder_of}
@@ -128,29 +128,31 @@ neither (fin s m i) (fin u zero j) t d e q w h = refl
 neither (fin s m i) (fin u (suc n) j) t d e q w h = absurd (no_digits_lem n j u t d e h (q refl).value)
 
 -- ---- by the parts of x and y, where |x| is not below |y|
--- both are finite, and y has digits
-abbrev long : Parts → Parts → Bool
-long a b = a.finite && b.finite && ltb 0 b.digits
+module _ (x y : Float) (a b : Parts) (p : PartsOf x true a.negative a.digits a.exponent) (q : PartsOf y true b.negative b.digits b.exponent) where
+  x_parts : Decoded x a.negative a.digits a.exponent
+  x_parts = p.decoded (sym p.kind)
 
-module _ (x y : Float) (a b : Parts) (p : PartsOf x a.finite a.negative a.digits a.exponent) (q : PartsOf y b.finite b.negative b.digits b.exponent) (w : within x y ≡ false) where
-  decoded : long a b ≡ true → Decoded x a.negative a.digits a.exponent × Decoded y b.negative b.digits b.exponent × (0 < b.digits)
-  decoded h =
-      let u = both_true (a.finite && b.finite) (ltb 0 b.digits) h in
-      let v = both_true a.finite b.finite u.0 in
-      (p.decoded (sym p.kind ∙ v.0), q.decoded (sym q.kind ∙ v.1), some_of b.digits u.1)
+  y_parts : Decoded y b.negative b.digits b.exponent
+  y_parts = q.decoded (sym q.kind)
 
-  pub asked : long a b ≡ true → (a.digits < 2 ^ 53) × (0 < b.digits) × (b.digits < 2 ^ 53) × (b.exponent ≤ a.exponent) × (b.exponent ≤ 2045)
-  asked h =
-      let z = decoded h in
-      (z.0.digits, z.2, z.1.digits, no_longer x y a.negative b.negative a.digits a.exponent b.digits b.exponent z.0 z.1 w, z.1.scale)
+  pub exponents : within x y ≡ false → b.exponent ≤ a.exponent
+  exponents = no_longer x y a.negative b.negative a.digits a.exponent b.digits b.exponent x_parts y_parts
 
-  pub by_digits : long a b ≡ true → round binary64 a.negative (a.digits * 2 ^ a.exponent % (b.digits * 2 ^ b.exponent)) (2 ^ 1074) ≡ remainder_of x y
-  by_digits h =
-      let z = decoded h in
-      sym (remainder_at x y a.negative b.negative (a.digits * 2 ^ a.exponent) (b.digits * 2 ^ b.exponent) (mul-pos z.2 (pow_pos b.exponent)) z.0.value z.1.value)
+  pub by_digits : 0 < b.digits → round binary64 a.negative (a.digits * 2 ^ a.exponent % (b.digits * 2 ^ b.exponent)) (2 ^ 1074) ≡ remainder_of x y
+  by_digits h = sym (remainder_at x y a.negative b.negative (a.digits * 2 ^ a.exponent) (b.digits * 2 ^ b.exponent) (mul-pos h (pow_pos b.exponent)) x_parts.value y_parts.value)
 
-  pub no_number : long a b ≡ false → nan ≡ remainder_of x y
-  no_number h = neither x y b.negative b.digits b.exponent q.decoded w ((λ i. sym p.kind i && sym q.kind i && ltb 0 b.digits) ∙ h)
+-- NaN where one of them is not finite, or y has no digits
+pub no-x : (x y : Float) → PartsOf x false false 0 0 → nan ≡ remainder_of x y
+unfolding remainder_of
+no-x nan y p = refl
+no-x (inf s) y p = refl
+no-x (fin s m e) y p = absurd (false≢true p.kind)
+
+pub no-y : (x y : Float) → PartsOf y false false 0 0 → within x y ≡ false → nan ≡ remainder_of x y
+no-y x y q w = neither x y false 0 0 q.decoded w (and_none (finite x && finite y))
+
+pub no_digits : (x y : Float) (t : Bool) (d e : ℕ) → PartsOf y true t d e → d ≤ 0 → within x y ≡ false → nan ≡ remainder_of x y
+no_digits x y t d e q h w = neither x y t d e q.decoded w (ap (λ (b : Bool). finite x && finite y && b) (is_none d h) ∙ and_none (finite x && finite y))
 
 -- ---- lib.Ieee's remainder besides
 pub and_ours : (x y r : Float) → T (fits binary64 x) → T (fits binary64 y) → r ≡ x %% y → (r ≡ remainder_of x y) × (r ≡ x %% y)

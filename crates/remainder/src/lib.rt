@@ -35,10 +35,8 @@ fn rest_after(x: u64, y: u64, zeros: u64) -> u64
     ensures { result ≡ x * 2 ^ zeros % y }
 {
     let mut rest = first(x, y);
-    let mut i: u64 = 0;
-    while i < zeros {
+    for _ in 0..zeros {
         rest = once(2 * rest, y);
-        i += 1;
     }
     rest
 }
@@ -48,11 +46,11 @@ fn written(negative: bool, rest: u64, exponent: u64) -> f64
     requires { exponent ≤ 2045 }
     ensures { result ≡ round binary64 negative (rest * 2 ^ exponent) (2 ^ 1074) }
 {
-    bits::rounded(negative, 0, rest, false, exponent + 1266)
+    bits::rounded(negative, u128::from(rest), false, exponent + 1266)
 }
 
 fn remainder_of(x: Parts, y: Parts) -> f64
-    requires { (x.digits < 2 ^ 53) × (0 < y.digits) × (y.digits < 2 ^ 53) × (y.exponent ≤ x.exponent) × (y.exponent ≤ 2045) }
+    requires { (0 < y.digits) × (y.exponent ≤ x.exponent) }
     ensures { result ≡ round binary64 x.negative (x.digits * 2 ^ x.exponent % (y.digits * 2 ^ y.exponent)) (2 ^ 1074) }
 {
     let rest = rest_after(x.digits, y.digits, x.exponent - y.exponent);
@@ -73,10 +71,8 @@ pub fn remainder(x: f64, y: f64) -> f64
     if smaller(x, y) {
         return x;
     }
-    let a = bits::parts(x);
-    let b = bits::parts(y);
-    if a.finite & b.finite & (b.digits > 0) {
-        return remainder_of(a, b);
+    match (bits::parts(x), bits::parts(y)) {
+        (Some(a), Some(b)) if b.digits > 0 => remainder_of(a, b),
+        _ => 0.0 / 0.0,
     }
-    0.0 / 0.0
 }

@@ -96,11 +96,9 @@ fn digits(radicand: u64) -> u64
 {
     let mut p = first_trial(radicand);
     let mut m = first_moves();
-    let mut i: u64 = 0;
-    while i < TRIED {
+    for _ in 0..TRIED {
         p = step(p, m);
         m = halved(m);
-        i += 1;
     }
     last_digit(p)
 }
@@ -121,13 +119,11 @@ fn digits_of_three(x: u64, y: u64, z: u64) -> ThreeDigits
     let mut b = first_trial(y);
     let mut c = first_trial(z);
     let mut m = first_moves();
-    let mut i: u64 = 0;
-    while i < TRIED {
+    for _ in 0..TRIED {
         a = step(a, m);
         b = step(b, m);
         c = step(c, m);
         m = halved(m);
-        i += 1;
     }
     ThreeDigits {
         x: last_digit(a),
@@ -192,17 +188,16 @@ fn made_ready(x: f64) -> Ready
     ensures { Readied x result.plain result.value result.radicand result.half }
 {
     if x > 0.0 {
-        let p = bits::parts(x);
-        if p.finite {
-            let a = aligned(p.digits, p.exponent);
-            return Ready {
-                plain: true,
-                value: x,
-                radicand: a.digits,
-                half: a.half,
-            };
-        }
-        return settled(x);
+        let Some(p) = bits::parts(x) else {
+            return settled(x);
+        };
+        let a = aligned(p.digits, p.exponent);
+        return Ready {
+            plain: true,
+            value: x,
+            radicand: a.digits,
+            half: a.half,
+        };
     }
     if x < 0.0 {
         return settled(bits::from_pattern(NAN));

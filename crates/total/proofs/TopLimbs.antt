@@ -21,13 +21,12 @@ fit_first l n h f = subst (λ (k : ℕ). val (take n l) < W k) (length-take-le n
 
 -- ---- to the one rounding
 -- only the lowest limb
-pub round-one : (s : Bool) (l : List ℕ) (t : ℕ) → t ≡ 0 → t < length l → val (take (t + 1) l) ≡ val l → rounded_of s (0 * 2 ^ 64 + get_or l 0 0) false 1266 ≡ round binary64 s (val l) (2 ^ 1074)
+pub round-one : (s : Bool) (l : List ℕ) (t : ℕ) → t ≡ 0 → t < length l → val (take (t + 1) l) ≡ val l → rounded_of s (get_or l 0 0) false 1266 ≡ round binary64 s (val l) (2 ^ 1074)
 unfolding W
 round-one s l t z h e =
     let x = get_or l 0 0 in
     let v : val l ≡ x = sym e ∙ val_next l t h ∙ (λ i. val (take (z i) l) + W (z i) * get_or l (z i) 0) ∙ ap (λ (n : ℕ). n + 1 * x) (val-none l) ∙ omega arith in
-    ap (λ (n : ℕ). rounded_of s n false 1266) (let y : 0 * 2 ^ 64 + x ≡ x = omega arith in y)
-    ∙ rounded_exact s (x * 2 ^ 1266) x 1266 (kept_self x 1266)
+    rounded_exact s (x * 2 ^ 1266) x 1266 (kept_self x 1266)
     ∙ round-shift binary64 s x 1074 1266
     ∙ ap (λ (n : ℕ). round binary64 s n (2 ^ 1074)) (sym v)
 

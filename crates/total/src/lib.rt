@@ -31,7 +31,9 @@ impl Total {
     pub fn add(self, x: f64, times: u16) -> Total
         ensures { (val result.limbs ≡ add_of (val self.limbs) times x) × (result.limbs ≡ limbs_of (add_of (val self.limbs) times x)) }
     {
-        let p = bits::parts(x);
+        let Some(p) = bits::parts(x) else {
+            return self;
+        };
         let mut held = self.limbs;
         limbs::moved(&mut held, p.digits, times, p.exponent, p.negative);
         Total { limbs: held }
@@ -41,7 +43,9 @@ impl Total {
     pub fn take(self, x: f64, times: u16) -> Total
         ensures { (val result.limbs ≡ take_of (val self.limbs) times x) × (result.limbs ≡ limbs_of (take_of (val self.limbs) times x)) }
     {
-        let p = bits::parts(x);
+        let Some(p) = bits::parts(x) else {
+            return self;
+        };
         let mut held = self.limbs;
         limbs::moved(&mut held, p.digits, times, p.exponent, !p.negative);
         Total { limbs: held }

@@ -78,8 +78,8 @@ fn spread(digits: u64, times: u16, by: u64) -> Words
     ensures { val (result.low ∷ result.middle ∷ result.high ∷ []) ≡ times * digits * 2 ^ by }
 {
     let product = bits::product(digits, times as u64);
-    let low = product.low;
-    let high = product.high;
+    let low = (product % (1 << 64)) as u64;
+    let high = (product >> 64) as u64;
     Words {
         low: low << by,
         middle: (high << by) + ((low >> 1) >> (63 - by)),

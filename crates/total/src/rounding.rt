@@ -63,16 +63,11 @@ pub(crate) fn round_size(negative: bool, limbs: [u64; 34]) -> f64
 {
     let at = highest(limbs);
     if at == 0 {
-        return bits::rounded(negative, 0, limbs[0], false, 1266);
+        return bits::rounded(negative, u128::from(limbs[0]), false, 1266);
     }
     let more = any_below(limbs, at - 1);
-    bits::rounded(
-        negative,
-        limbs[at],
-        limbs[at - 1],
-        more,
-        64 * (at as u64) + 1202,
-    )
+    let two = (u128::from(limbs[at]) << 64) + u128::from(limbs[at - 1]);
+    bits::rounded(negative, two, more, 64 * (at as u64) + 1202)
 }
 
 // The sign of a number and its size.

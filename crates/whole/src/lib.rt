@@ -3,6 +3,8 @@
 #![tactic(auto)]
 
 ghost use Rattle.std.specs.Prelude.{◌≡◌, ◌^◌, ◌<◌, ◌≤◌};
+ghost use Rattle.std.specs.Float.{binary64};
+ghost use Rattle.std.specs.Float.Ieee.{round};
 ghost use Rattle.whole.specs.Whole.{magnitude_of, round_of, half_up};
 
 pub fn magnitude(x: f64) -> f64
@@ -26,14 +28,20 @@ fn closest(w: u64, s: u64) -> u64
     }
 }
 
+// ± n
+pub fn signed(negative: bool, n: u64) -> f64
+    requires { n ≤ 2 ^ 53 }
+    ensures { result ≡ round binary64 negative n 1 }
+{
+    let y = n as f64;
+    if negative { -y } else { y }
+}
+
 pub fn round(x: f64) -> f64
     ensures { result ≡ round_of x }
 {
-    let p = bits::parts(x);
-    if p.finite & (p.exponent < 1074) {
-        let n = closest(p.digits, 1074 - p.exponent);
-        let y = n as f64;
-        return if p.negative { -y } else { y };
+    match bits::parts(x) {
+        Some(p) if p.exponent < 1074 => signed(p.negative, closest(p.digits, 1074 - p.exponent)),
+        _ => x,
     }
-    x
 }

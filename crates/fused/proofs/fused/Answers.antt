@@ -1,46 +1,40 @@
 -- `fused` meets its contract: the finite case by its parts, the others as they are (`Values`).
-use mathlib.Core.Path.{◌≡◌, sym, ◌∙◌}
-use mathlib.Core.Bool.{true, ◌&&◌}
+use Rattle.std.proofs.Common.{◌≡◌, ◌^◌, Bool, ◌&&◌, true, false, refl, sym, ap, ◌∙◌}
+use lib.Ieee.{binary64, sum}
 use lib.Ieee.Scale.{finite}
-use Rattle.laws.specs.laws.Flags.{both_true}
-use Rattle.bits.specs.Parts.{Decoded}
+use Rattle.bits.specs.laws.Found.{found, none_found}
 use Rattle.fused.proofs.Values.{fused_finite, fused_addend, fused_factor}
 use Rattle.fused.proofs.fused.Goals as goal
-use Rattle.fused.proofs.fused.Goals.{Then-a-b, Then-c}
+use Rattle.fused.proofs.fused.Goals.{in_default-via-in-Some+in_default, in_default-via-in_default}
 
-finite_x : (c : Then-a-b) → finite c.args.x ≡ true
-finite_x c = let q = c.before.before.before.before in let p = q.before in sym p.parts-a.ensures.kind ∙ (both_true p.parts-a.result.finite q.parts-b.result.finite c.if-a-b.true).0
-
-finite_y : (c : Then-a-b) → finite c.args.y ≡ true
-finite_y c = let q = c.before.before.before.before in sym q.parts-b.ensures.kind ∙ (both_true q.parts-a.result.finite q.parts-b.result.finite c.if-a-b.true).1
-
-decoded-x : (c : Then-c) → let p = c.before.before.before.before.before.before in Decoded p.args.x p.parts-a.result.negative p.parts-a.result.digits p.parts-a.result.exponent
-decoded-x c = let p = c.before.before.before.before.before.before in p.parts-a.ensures.decoded (finite_x c.before)
-
-decoded-y : (c : Then-c) → let p = c.before.before.before.before.before in Decoded p.args.y p.parts-b.result.negative p.parts-b.result.digits p.parts-b.result.exponent
-decoded-y c = let p = c.before.before.before.before.before in p.parts-b.ensures.decoded (finite_y c.before)
-
-decoded-z : (c : Then-c) → let p = c.before.before.before.before in Decoded p.args.z p.parts-c.result.negative p.parts-c.result.digits p.parts-c.result.exponent
-decoded-z c = let p = c.before.before.before.before in p.parts-c.ensures.decoded (sym p.parts-c.ensures.kind ∙ c.if-c.true)
-
-pub fused_parts-requires : goal.fused_parts-requires
-fused_parts-requires c = ((decoded-x (goal.at.fused_parts-requires c).Then-c).digits, (decoded-x (goal.at.fused_parts-requires c).Then-c).scale, (decoded-y (goal.at.fused_parts-requires c).Then-c).digits, (decoded-y (goal.at.fused_parts-requires c).Then-c).scale, (decoded-z (goal.at.fused_parts-requires c).Then-c).digits, (decoded-z (goal.at.fused_parts-requires c).Then-c).scale)
-
-pub returns-then-c : goal.returns-then-c
-returns-then-c c =
+pub returns-in-Some-Some-Some : goal.returns-in-Some-Some-Some
+returns-in-Some-Some-Some c =
     let a = c.args in
-    let f = c.parts-a.result in
-    let g = c.parts-b.result in
-    let h = c.parts-c.result in
-    c.fused_parts.ensures
-    ∙ fused_finite a.x a.y a.z f.negative g.negative h.negative f.digits f.exponent g.digits g.exponent h.digits h.exponent (decoded-x (goal.at.returns-then-c c).Then-c).value (decoded-y (goal.at.returns-then-c c).Then-c).value (decoded-z (goal.at.returns-then-c c).Then-c).value
+    let s = c.in-Some-Some-Some in
+    let p = found a.x _ s.a s.is-0 c.parts.ensures in
+    let q = found a.y _ s.b s.is-1 c.parts-2.ensures in
+    let r = found a.z _ s.c s.is-2 c.parts-3.ensures in
+    let u = c.place_product.ensures in
+    let v = c.place_addend.ensures in
+    c.sum_of.ensures
+    ∙ (λ i. sum binary64 (u.0 i) (u.1 i) (v.0 i) (v.1 i) (2 ^ 2340))
+    ∙ fused_finite a.x a.y a.z s.a.negative s.b.negative s.c.negative s.a.digits s.a.exponent s.b.digits s.b.exponent s.c.digits s.c.exponent (p.decoded (sym p.kind)).value (q.decoded (sym q.kind)).value (r.decoded (sym r.kind)).value
 
-pub returns-then-a-b : goal.returns-then-a-b
-returns-then-a-b c =
+pub returns-in-Some-Some-None : goal.returns-in-Some-Some-None
+returns-in-Some-Some-None c =
     let a = c.args in
-    fused_addend a.x a.y a.z (finite_x (goal.at.returns-then-a-b c).Then-a-b) (finite_y (goal.at.returns-then-a-b c).Then-a-b) (sym c.parts-c.ensures.kind ∙ c.if-c.false)
+    let s = c.in-Some-Some-None in
+    fused_addend a.x a.y a.z (sym (found a.x _ s.field-0-0 s.is-0 c.parts.ensures).kind) (sym (found a.y _ s.field-0-1 s.is-1 c.parts-2.ensures).kind) (sym (none_found a.z _ s.is-2 c.parts-3.ensures).kind)
 
-pub returns : goal.returns
-returns c =
+pub returns-in_default : goal.returns-in_default
+returns-in_default c =
     let a = c.args in
-    fused_factor a.x a.y a.z ((λ i. sym c.parts-a.ensures.kind i && sym c.parts-b.ensures.kind i) ∙ c.if-a-b.false)
+    fused_factor a.x a.y a.z
+    (elim c.in_default.branch [
+      | in_default-via-in-Some+in_default w ↦ ap (λ (b : Bool). finite a.x && b) (sym (none_found a.y _ w.in_default.is-1 c.parts-2.ensures).kind) ∙ none (finite a.x)
+      | in_default-via-in_default w ↦ ap (λ (b : Bool). b && finite a.y) (sym (none_found a.x _ w.in_default.is-0 c.parts.ensures).kind)
+    ])
+  where
+    none : (b : Bool) → (b && false) ≡ false
+    none true = refl
+    none false = refl

@@ -7,8 +7,8 @@ use Rattle.fused.proofs.Places.{shift_bound, is_lifted}
 use Rattle.fused.proofs.lifted.Goals as goal
 use Rattle.fused.proofs.lifted.Goals.{Start}
 
-zeros : (c : Start) → (11 ≤ count_leading_zeros 64 c.args.sig) × (count_leading_zeros 64 c.args.sig ≤ 64)
-zeros c = shift_bound c.args.sig c.requires.0
+zeros : (c : Start) → (11 ≤ count_leading_zeros 64 c.args.p.digits) × (count_leading_zeros 64 c.args.p.digits ≤ 64)
+zeros c = shift_bound c.args.p.digits c.args.p.digits_fit
 
 pub overflow_cast-shift : goal.overflow_cast-shift
 overflow_cast-shift c = omega (arith, zeros (goal.at.overflow_cast-shift c).Start)
@@ -23,4 +23,4 @@ pub overflow_sub-result : goal.overflow_sub-result
 overflow_sub-result c = omega (arith, zeros (goal.at.overflow_sub-result c).Start)
 
 pub returns : goal.returns
-returns c = is_lifted c.args.sig c.args.exp c.requires.0 _ refl
+returns c = is_lifted c.args.p.digits c.args.p.exponent c.args.p.digits_fit _ refl

@@ -2,10 +2,11 @@
 use Rattle.std.proofs.Common.{◌≡◌, false, T, sym, ◌∙◌}
 use lib.Ieee.{binary64, of_bits, div, fits}
 use Rattle.laws.specs.laws.Flags.{holds}
+use Rattle.bits.specs.laws.Found.{found, none_found}
 use Rattle.remainder.specs.Steps.{within}
-use Rattle.remainder.proofs.Values.{small, asked, by_digits, no_number, and_ours, and_theirs}
+use Rattle.remainder.proofs.Values.{small, exponents, by_digits, no-x, no-y, no_digits, and_ours, and_theirs}
 use Rattle.remainder.proofs.remainder.Goals as goal
-use Rattle.remainder.proofs.remainder.Goals.{Else-smaller, Start}
+use Rattle.remainder.proofs.remainder.Goals.{Else-smaller, Start, in_default-via-in-Some-Some+else-b-gt0, in_default-via-in-Some+in_default, in_default-via-in_default}
 
 x_fits : (c : Start) → T (fits binary64 c.args.x)
 x_fits c = holds c.well_formed.0.1
@@ -25,15 +26,24 @@ apart c = sym c.smaller.ensures ∙ c.if-smaller.false
 
 pub remainder_of-requires : goal.remainder_of-requires
 remainder_of-requires c =
-    asked c.args.x c.args.y c.parts-a.result c.parts-b.result c.parts-a.ensures c.parts-b.ensures (apart (goal.at.remainder_of-requires c).Else-smaller) c.if-a-b.true
+    let s = c.in-Some-Some in
+    (c.if-b-gt0.true, exponents c.args.x c.args.y s.a s.b (found c.args.x _ s.a s.is-0 c.parts.ensures) (found c.args.y _ s.b s.is-1 c.parts-2.ensures) (apart (goal.at.remainder_of-requires c).Else-smaller))
 
-pub returns-then-a-b : goal.returns-then-a-b
-returns-then-a-b c =
-    and_theirs c.args.x c.args.y c.remainder_of.result (x_fits (goal.at.returns-then-a-b c).Start) (y-fits (goal.at.returns-then-a-b c).Start)
-    (c.remainder_of.ensures ∙ by_digits c.args.x c.args.y c.parts-a.result c.parts-b.result c.parts-a.ensures c.parts-b.ensures (apart (goal.at.returns-then-a-b c).Else-smaller) c.if-a-b.true)
+pub returns-in-Some-Some : goal.returns-in-Some-Some
+returns-in-Some-Some c =
+    let s = c.in-Some-Some in
+    and_theirs c.args.x c.args.y c.remainder_of.result (x_fits (goal.at.returns-in-Some-Some c).Start) (y-fits (goal.at.returns-in-Some-Some c).Start)
+    (c.remainder_of.ensures ∙ by_digits c.args.x c.args.y s.a s.b (found c.args.x _ s.a s.is-0 c.parts.ensures) (found c.args.y _ s.b s.is-1 c.parts-2.ensures) c.if-b-gt0.true)
 
-pub returns : goal.returns
+pub returns-in_default : goal.returns-in_default
 unfolding of_bits div
-returns c =
-    and_theirs c.args.x c.args.y _ (x_fits (goal.at.returns c).Start) (y-fits (goal.at.returns c).Start)
-    (no_number c.args.x c.args.y c.parts-a.result c.parts-b.result c.parts-a.ensures c.parts-b.ensures (apart (goal.at.returns c).Else-smaller) c.if-a-b.false)
+returns-in_default c =
+    let x = c.args.x in
+    let y = c.args.y in
+    let w = apart (goal.at.returns-in_default c).Else-smaller in
+    and_theirs x y _ (x_fits (goal.at.returns-in_default c).Start) (y-fits (goal.at.returns-in_default c).Start)
+    (elim c.in_default.branch [
+      | in_default-via-in-Some-Some+else-b-gt0 v ↦ let b = v.in-Some-Some.b in no_digits x y b.negative b.digits b.exponent (found y _ b v.in-Some-Some.is-1 c.parts-2.ensures) v.if-b-gt0.false w
+      | in_default-via-in-Some+in_default v ↦ no-y x y (none_found y _ v.in_default.is-1 c.parts-2.ensures) w
+      | in_default-via-in_default v ↦ no-x x y (none_found x _ v.in_default.is-0 c.parts.ensures)
+    ])

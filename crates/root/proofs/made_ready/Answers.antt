@@ -7,33 +7,33 @@ use Rattle.root.specs.Root.{round_root}
 use Rattle.root.specs.laws.Meaning.{root_at}
 use Rattle.root.proofs.Values.{root_negative, root_infinite, root_self, is_positive, some_digits}
 use Rattle.root.proofs.made_ready.Goals as goal
-use Rattle.root.proofs.made_ready.Goals.{Then-p}
+use Rattle.root.proofs.made_ready.Goals.{In-Some}
 
-decoded : (c : Then-p) → Decoded c.args.x c.parts-p.result.negative c.parts-p.result.digits c.parts-p.result.exponent
-decoded c = let p = c.before in p.parts-p.ensures.decoded (sym p.parts-p.ensures.kind ∙ c.if-p.true)
+decoded : (c : In-Some) → Decoded c.args.x c.in-Some.p.negative c.in-Some.p.digits c.in-Some.p.exponent
+decoded c = let p = c.in-Some.ensures in p.decoded (sym p.kind)
 
-above : (c : Then-p) → T (positive c.args.x)
+above : (c : In-Some) → T (positive c.args.x)
 unfolding of_bits
-above c = let p = c.before in is_positive p.args.x p.if-x.true (sym p.parts-p.ensures.kind ∙ c.if-p.true)
+above c = is_positive c.args.x c.if-x.true (sym c.in-Some.ensures.kind)
 
 pub aligned-a-requires : goal.aligned-a-requires
 aligned-a-requires c =
-    let r = c.parts-p.result in
-    let d = decoded (goal.at.aligned-a-requires c).Then-p in
-    (some_digits c.args.x r.negative r.digits r.exponent (above (goal.at.aligned-a-requires c).Then-p) d.value, d.digits, d.scale)
-
-pub returns-then-p : goal.returns-then-p
-returns-then-p c =
-    let r = c.parts-p.result in
-    let a = c.aligned-a.ensures in
-    let e = ap round_root a.same ∙ sym (root_at c.args.x r.negative (r.digits * 2 ^ r.exponent) (above (goal.at.returns-then-p c).Then-p) (decoded (goal.at.returns-then-p c).Then-p).value) in
-    record { sized = a.sized; worked = (λ h. e); known = (λ h. absurd (true≢false h)) }
+    let p = c.in-Some.p in
+    let d = decoded (goal.at.aligned-a-requires c).In-Some in
+    (some_digits c.args.x p.negative p.digits p.exponent (above (goal.at.aligned-a-requires c).In-Some) d.value, d.digits, d.scale)
 
 pub returns-then-x : goal.returns-then-x
-unfolding of_bits
 returns-then-x c =
+    let p = c.in-Some.p in
+    let a = c.aligned-a.ensures in
+    let e = ap round_root a.same ∙ sym (root_at c.args.x p.negative (p.digits * 2 ^ p.exponent) (above (goal.at.returns-then-x c).In-Some) (decoded (goal.at.returns-then-x c).In-Some).value) in
+    record { sized = a.sized; worked = (λ h. e); known = (λ h. absurd (true≢false h)) }
+
+pub returns-in_default : goal.returns-in_default
+unfolding of_bits
+returns-in_default c =
     let x = c.args.x in
-    c.settled.ensures x (root_infinite x c.if-x.true (sym c.parts-p.ensures.kind ∙ c.if-p.false))
+    c.settled.ensures x (root_infinite x c.if-x.true (sym c.in_default.ensures.kind))
 
 pub returns-then-x-2 : goal.returns-then-x-2
 unfolding of_bits

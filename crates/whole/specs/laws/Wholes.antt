@@ -1,9 +1,11 @@
 -- A function to whole numbers, by what it picks of a value's fraction: the same of any fraction of that value; and from 2 ^ 52 on, and where it is not finite, the value stays. Assumes nothing.
 use Rattle.std.specs.Prelude.{◌≡◌, refl, Bool, true, false, ◌&&◌, ℕ, zero, suc, ◌+◌, ◌-◌, ◌*◌, ◌^◌, ◌≤◌, ◌<◌, T, ltb, ℤ, pos, negsuc, Float}
-use Rattle.std.proofs.Common.{sym, ap, ◌∙◌, subst, true≢false, le_trans, le_of_eq, lt_of_lt_of_le, lt_of_le_of_lt, lt_irrefl, mul-one, mul_assoc, mul_right_comm, mul-le-mul, mul-le-mul_left, mul-le-mul_right, le_of_mul-le-mul_right, arith, ltb→lt, le→leb, nltb→le, lit<, pow-add, pow_pos, pow_mono}
+use Rattle.std.proofs.Common.{sym, ap, ◌∙◌, subst, true≢false, le_trans, le_of_eq, lt_of_lt_of_le, lt_of_le_of_lt, lt_irrefl, mul-one, mul_assoc, mul_right_comm, mul-le-mul, mul-le-mul_left, mul-le-mul_right, le_of_mul-le-mul_right, arith, ltb→lt, lt→ltb, le→leb, nltb→le, lit<, pow-add, pow_pos, pow_mono}
+use Rattle.std.proofs.Math.Arith.{le→nltb}
 use Rattle.std.proofs.Math.Nat.{eq_of_mul-eq-mul_right}
 use Rattle.std.specs.Float.{nan, inf, fin, binary64}
 use Rattle.std.specs.Float.Ieee.{up, down, round, fits, neg, of_int, in_float}
+use Rattle.std.specs.Float.Ieee.Bits.{is_true, is_false}
 use Rattle.std.specs.Float.Ieee.Exact.{HasValue}
 use Rattle.std.specs.Float.Ieee.Fits.{down_pos}
 use Rattle.std.specs.Float.Ieee.Scale.{finite}
@@ -44,11 +46,11 @@ pub in_float_lem : (n : ℕ) → n ≤ 2 ^ 53 → T (in_float binary64 (pos n))
 unfolding in_float
 in_float_lem n h = le→leb n (2 ^ 53) h
 
-signed-neg : (s : Bool) (n : ℕ) → s ≡ true → neg (of_int binary64 (pos n)) ≡ round binary64 s n 1
+pub signed-neg : (s : Bool) (n : ℕ) → s ≡ true → neg (of_int binary64 (pos n)) ≡ round binary64 s n 1
 unfolding of_int
 signed-neg s n e = sym (ap (λ (b : Bool). round binary64 b n 1) e ∙ round-neg binary64 false n 1)
 
-signed_pos : (s : Bool) (n : ℕ) → s ≡ false → of_int binary64 (pos n) ≡ round binary64 s n 1
+pub signed_pos : (s : Bool) (n : ℕ) → s ≡ false → of_int binary64 (pos n) ≡ round binary64 s n 1
 unfolding of_int
 signed_pos s n e = sym (ap (λ (b : Bool). round binary64 b n 1) e)
 
@@ -87,7 +89,7 @@ module _ (F : Float → Float) (pick : Bool → ℕ → ℕ → ℕ) (w : Picks 
   module _ (x : Float) (f s : Bool) (d e : ℕ) (p : PartsOf x f s d e) where
     -- below 2 ^ 52: of d / 2 ^ (1074 - e)
     module _ (q : (f && ltb e 1074) ≡ true) (n : ℕ) (z : n ≡ pick s d (2 ^ (1074 - e))) where
-      low : round binary64 s n 1 ≡ F x
+      pub low : round binary64 s n 1 ≡ F x
       low = ap (λ (y : ℕ). round binary64 s y 1) z ∙ sym (fraction x s d (2 ^ (1074 - e)) (pow_pos (1074 - e)) (value x f s d e p q))
 
       pub below-zero : s ≡ true → neg (of_int binary64 (pos n)) ≡ F x
@@ -110,3 +112,13 @@ module _ (F : Float → Float) (pick : Bool → ℕ → ℕ → ℕ) (w : Picks 
             let v = p.decoded z in
             let u : 1074 ≤ e = nltb→le e 1074 (fails (high f refl z)) in
             sym (large x s (d * 2 ^ e) (2 ^ 1074) (pow_pos 1074) h v.value (mul-le-mul (v.lead (let y : 0 < e = omega arith in y)) (pow_mono u)))
+
+  -- the same by the parts of a finite value, and by there being none
+  pub picked : (x : Float) (s : Bool) (d e : ℕ) → PartsOf x true s d e → e < 1074 → (n : ℕ) → n ≡ pick s d (2 ^ (1074 - e)) → round binary64 s n 1 ≡ F x
+  picked x s d e p h = low x true s d e p (is_true (ltb e 1074) (lt→ltb e 1074 h))
+
+  pub far : (x : Float) (s : Bool) (d e : ℕ) → PartsOf x true s d e → T (fits binary64 x) → 1074 ≤ e → x ≡ F x
+  far x s d e p f h = stays x true s d e p f (is_false (ltb e 1074) (le→nltb e 1074 h))
+
+  pub no_parts : (x : Float) → PartsOf x false false 0 0 → x ≡ F x
+  no_parts x p = sym (w.other x (sym p.kind))

@@ -1,7 +1,8 @@
 -- `round_full` meets its contract: the digits that stay, and the one that decides (`Leading`).
-use Rattle.std.proofs.Common.{◌≡◌, ℕ, ◌+◌, ◌-◌, ◌/◌, ◌%◌, ◌^◌, Bool, ◌||◌, ltb, ap, ◌∙◌}
+use Rattle.std.proofs.Common.{◌≡◌, ℕ, ◌+◌, ◌-◌, ◌/◌, ◌%◌, ◌^◌, Bool, ◌||◌, ltb, ap, ◌∙◌, arith}
 use Prim.Native.Nat.{Ordering}
 use lib.Ieee.{binary64, units, nearest}
+use Rattle.laws.specs.laws.Digits.{one_shl}
 use Rattle.bits.specs.Steps.{ord_of}
 use Rattle.bits.proofs.Leading.{full_is, full_zero, full_bounds}
 use Rattle.bits.proofs.rounding.round_full.Goals as goal
@@ -14,12 +15,12 @@ side w d more = ord_of (w / 2 ^ (d - 1) % 2) (more || ltb 0 (w % 2 ^ (d - 1)))
 abbrev kept : ℕ → ℕ → Bool → ℕ
 kept w d more = nearest (w / 2 ^ (d - 1) / 2) (side w d more)
 
-q-is : (c : After-nearest_half-q) → let d = c.before.before.before.before in c.nearest_half-q.result ≡ kept d.args.w d.dropped-d.result d.args.more
+q-is : (c : After-nearest_half-q) → c.nearest_half-q.result ≡ kept c.args.w c.dropped-d.result c.args.more
 q-is c =
-    let cut = c.before.before in
-    let high = cut.split-c.ensures.0 in
-    let more = cut.args.more in
-    c.nearest_half-q.ensures ∙ (λ i. nearest (high i / 2) (ord_of (high i % 2) (more || ltb 0 (cut.split-c.ensures.1 i))))
+    let a = c.args in
+    let s = c.dropped-d.result - 1 in
+    let g = c.if-d-gt64.false in
+    c.nearest_half-q.ensures ∙ ap (λ (x : ℕ). nearest (a.w / 2 ^ s / 2) (ord_of (a.w / 2 ^ s % 2) (a.more || ltb 0 (a.w % x)))) (one_shl s (omega (arith, c.dropped-d.ensures.some, g)))
 
 pub returns-then-d-gt64 : goal.returns-then-d-gt64
 returns-then-d-gt64 c =

@@ -5,10 +5,9 @@ use native.Mathlib.Omega.{arith}
 use mir.Facts.{Fits-le, Fits-lit}
 use Rattle.logarithm.specs.Logarithm.{odds_of}
 use Rattle.logarithm.proofs.Odds.{odds-le}
-use Rattle.bits.specs.laws.Wide.{high_is}
 use Rattle.logarithm.proofs.Loops.{odds_turn}
 use Rattle.logarithm.proofs.series.odds.Goals as goal
-use Rattle.logarithm.proofs.series.odds.Goals.{After-product}
+use Rattle.logarithm.proofs.series.odds.Goals.{After-upper}
 
 pub loop-n-init : goal.loop-n-init
 unfolding odds_of
@@ -21,21 +20,21 @@ nonzero_div-h c = let i = c.loop-n.invariant in odd c.loop-n.n c.loop-n-test.tru
     odd n l h = omega arith
 
 -- the next sum
-next : (c : After-product) → 2 ^ 63 / (c.loop-n.n - 2) + c.product.result.high ≡ odds_of c.args.w (c.loop-n.n - 2) ((43 - (c.loop-n.n - 2)) / 2)
+next : (c : After-upper) → 2 ^ 63 / (c.loop-n.n - 2) + c.upper.result ≡ odds_of c.args.w (c.loop-n.n - 2) ((43 - (c.loop-n.n - 2)) / 2)
 next c =
     let b = c.before.before in
     let s = b.before in
     let i = b.loop-n.invariant in
-    odds_turn s.args.w b.loop-n.n b.loop-n.h c.product.result.high c.loop-n-test.true i.0 i.1 i.2 (high_is (s.args.w * b.loop-n.h) c.product.result.high c.product.result.low c.product.ensures)
+    odds_turn s.args.w b.loop-n.n b.loop-n.h c.upper.result c.loop-n-test.true i.0 i.1 i.2 c.upper.ensures
 
 pub overflow_add-h : goal.overflow_add-h
 overflow_add-h c =
-    Fits-le (subst (λ (z : ℕ). z ≤ 9 * 2 ^ 60) (sym (next (goal.at.overflow_add-h c).After-product)) (odds-le c.args.w (c.loop-n.n - 2) ((43 - (c.loop-n.n - 2)) / 2) c.requires)) (Fits-lit tt)
+    Fits-le (subst (λ (z : ℕ). z ≤ 9 * 2 ^ 60) (sym (next (goal.at.overflow_add-h c).After-upper)) (odds-le c.args.w (c.loop-n.n - 2) ((43 - (c.loop-n.n - 2)) / 2) c.requires)) (Fits-lit tt)
 
 pub loop-n-preserved : goal.loop-n-preserved
 loop-n-preserved c =
     let i = c.loop-n.invariant in
-    (less c.loop-n.n i.0, odd c.loop-n.n c.loop-n-test.true i.1, next (goal.at.loop-n-preserved c).After-product)
+    (less c.loop-n.n i.0, odd c.loop-n.n c.loop-n-test.true i.1, next (goal.at.loop-n-preserved c).After-upper)
   where
     less : (n : ℕ) → n ≤ 43 → n - 2 ≤ 43
     less n h = omega arith

@@ -1,17 +1,16 @@
 -- The parts' limbs are moved; `taken` says what that is of the value.
-use Rattle.std.proofs.Common.{◌+◌, ◌*◌, ◌^◌, not, rules}
+use Rattle.std.proofs.Common.{◌+◌, ◌*◌, ◌^◌, rules, Fits, w64, get_or}
+use mathlib.Core.Bool.{true, not}
 use Rattle.total.specs.Total.{val, complement}
-use Rattle.total.proofs.Adding.{parts_small, taken, held}
+use Rattle.total.proofs.Adding.{taken, untaken, held}
 use Rattle.total.proofs.Total.take.Goals as goal
 
-pub moved-requires : goal.moved-requires
-moved-requires c = let s = parts_small _ _ _ _ _ c.parts-p.ensures in (search rules, s.0, s.1)
+pub returns-in_default : goal.returns-in_default
+returns-in_default c = let a = c.args in untaken a.self.limbs a.times a.x (search rules) (λ i. (let z : Fits w64 (get_or c.args.self.limbs i 0) = search rules in z).fits) c.in_default.ensures
 
 pub returns : goal.returns
 returns c =
-    let p = c.parts-p in
+    let p = c.in-Some.p in
     let a = c.args in
     let t = val a.self.limbs in
-    let d = p.result.digits in
-    let e = p.result.exponent in
-    held c.moved.new.limbs (t + complement (not p.result.negative) (a.times * (d * 2 ^ e))) _ c.moved.ensures (taken a.x p.result.finite p.result.negative d e p.ensures t a.times)
+    held c.moved.new.limbs (t + complement (not p.negative) (a.times * (p.digits * 2 ^ p.exponent))) _ c.moved.ensures (taken a.x true p.negative p.digits p.exponent c.in-Some.ensures t a.times)

@@ -1,5 +1,6 @@
 -- The order in which each of the three functions decides. Definitions only.
-use Rattle.std.specs.Prelude.{ℕ, ltb, Float, Result, Err}
+use Rattle.std.specs.Prelude.{ℕ, Float, Result, Err}
+use Rattle.std.specs.Option.{option_map_or}
 use Rattle.laws.specs.Arithmetic.{◌⊖◌, ◌<·◌, ◌=·◌, ◌≠·◌, +0, -∞, 1·0}
 use Rattle.laws.specs.Ladder.{when◌gives◌else◌}
 use Rattle.root.specs.Root.{root_of}
@@ -21,5 +22,4 @@ by_domain m one minusInfinity negative belowOne =
 -- 0 ≤ m < 1: by its piece, and from 18 on by the mean of 1 and √(1-m)
 unfoldable pub below_one_of : {A : Type 0} → (ℕ → Float → A) → (Float → A) → Float → A
 below_one_of byPiece byMean m =
-    let i = piece_of m in
-    when ltb i 10 gives byPiece i (m ⊖ centre_of i) else byMean (root_of (1·0 ⊖ m))
+    option_map_or (λ i. byPiece i (m ⊖ centre_of i)) (piece_of m) (byMean (root_of (1·0 ⊖ m)))

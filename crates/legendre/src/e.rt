@@ -95,11 +95,10 @@ fn e_mean(y0: f64) -> f64
 pub(crate) fn e_below_one(m: f64) -> f64
     ensures { result ≡ e_below_one_of 32 m }
 {
-    let i = piece(m);
-    if i < 10 {
-        return e_piece(i, m - centre(i));
+    match piece(m) {
+        Some(i) => e_piece(i, m - centre(i)),
+        None => e_mean(root::root(1.0 - m)),
     }
-    e_mean(root::root(1.0 - m))
 }
 
 pub(crate) fn e_negative(m: f64) -> f64

@@ -74,9 +74,8 @@ pub(crate) fn k_mean(y0: f64) -> f64
 pub(crate) fn k_below_one(m: f64) -> f64
     ensures { result ≡ k_below_one_of m }
 {
-    let i = piece(m);
-    if i < 10 {
-        return k_piece(i, m - centre(i));
+    match piece(m) {
+        Some(i) => k_piece(i, m - centre(i)),
+        None => k_mean(root::root(1.0 - m)),
     }
-    k_mean(root::root(1.0 - m))
 }

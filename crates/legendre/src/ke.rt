@@ -33,15 +33,16 @@ fn both_mean(y0: f64) -> Both
 pub(crate) fn both_below_one(m: f64) -> Both
     ensures { result ≡ both_below_one_of m }
 {
-    let i = piece(m);
-    if i < 10 {
-        let delta = m - centre(i);
-        return Both {
-            k: k_piece(i, delta),
-            e: e_piece(i, delta),
-        };
+    match piece(m) {
+        Some(i) => {
+            let delta = m - centre(i);
+            Both {
+                k: k_piece(i, delta),
+                e: e_piece(i, delta),
+            }
+        }
+        None => both_mean(root::root(1.0 - m)),
     }
-    both_mean(root::root(1.0 - m))
 }
 
 fn scaled(c: f64, b: Both) -> Both

@@ -1,2 +1,1 @@
--- What more than one function's proof cites.
 mod Rows

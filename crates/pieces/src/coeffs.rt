@@ -1,10 +1,12 @@
-// The coefficients of K and E (coeffs.rs): a row for each piece, padded with zeros to one length, its own length beside it.
-ghost use Rattle.std.specs.Prelude.{◌≡◌};
+// The coefficients of K and E (coeffs.rs): a row for each piece.
+// Kept: the rows are padded with zeros to one length, each row's own length beside it, since docs/ORDER.md names that form.
+ghost use Rattle.std.specs.Prelude.{◌≡◌, ◌<◌, ◌≤◌, IsTrue, nat_le, [], take, slice_index, slice_index_or};
+ghost use Rattle.std.specs.List.{list_all};
 ghost use Rattle.pieces.specs.Piece.{piece_of, centre_of, k_piece_of, e_piece_of};
 
 use crate::polyeval::polyeval;
 
-const K: [[f64; 20]; 10] = [
+static K: [[f64; 20]; 10] = [
     [
         1.591003453790792180,
         0.416000743991786912,
@@ -227,9 +229,9 @@ const K: [[f64; 20]; 10] = [
     ],
 ];
 
-const K_LENGTHS: [usize; 10] = [12, 12, 12, 13, 14, 15, 17, 20, 16, 20];
+static K_LENGTHS: [usize; 10] = [12, 12, 12, 13, 14, 15, 17, 20, 16, 20];
 
-const E: [[f64; 20]; 10] = [
+static E: [[f64; 20]; 10] = [
     [
         1.550973351780472328,
         -0.400301020103198524,
@@ -452,73 +454,47 @@ const E: [[f64; 20]; 10] = [
     ],
 ];
 
-const E_LENGTHS: [usize; 10] = [11, 11, 11, 12, 13, 13, 15, 17, 14, 17];
+static E_LENGTHS: [usize; 10] = [11, 11, 11, 12, 13, 13, 15, 17, 14, 17];
 
-const CENTRES: [f64; 10] = [0.05, 0.15, 0.25, 0.35, 0.45, 0.55, 0.65, 0.75, 0.825, 0.875];
+static CENTRES: [f64; 10] = [0.05, 0.15, 0.25, 0.35, 0.45, 0.55, 0.65, 0.75, 0.825, 0.875];
 
-// The row of m; 10 where m has none. The product is rounded before it is truncated, as in the files: f64 0.85 lies below 17/20 and is on piece 17.
-pub fn piece(m: f64) -> usize
+// The row of m, where it has one. The product is rounded before it is truncated, as in the files: f64 0.85 lies below 17/20 and is on piece 17.
+pub fn piece(m: f64) -> Option<usize>
     ensures { result ≡ piece_of m }
 {
     let t = m * 20.0;
     if (t > -1.0) & (t < 18.0) {
         let k = std::num::truncating_f64_to_u64(t) as usize;
-        if k < 16 {
-            return k / 2;
-        }
-        return k - 8;
+        return Some(if k < 16 { k / 2 } else { k - 8 });
     }
-    10
+    None
 }
 
 pub fn centre(i: usize) -> f64
     ensures { result ≡ centre_of i }
 {
-    if i < 10 {
-        return CENTRES[i];
-    }
-    0.0
+    CENTRES.get(i).copied().unwrap_or(0.0)
 }
 
-// K on piece i, at a distance from its centre. With a constant index in each arm the compiler writes the row's numbers into the arm; an index that is only
-// known at the call would have the whole table written to the stack.
+// The coefficients of row i without the padding; none where there is no row.
+fn row<'a>(rows: &'a [[f64; 20]; 10], lengths: &[usize; 10], i: usize) -> &'a [f64]
+    requires { IsTrue (list_all (λ n. nat_le n 20) lengths.now) }
+    ensures within { i < 10 → result.now ≡ take (slice_index lengths.now i) (slice_index_or rows.now i []) }
+    ensures beyond { 10 ≤ i → result.now ≡ [] }
+{
+    if i < 10 { &rows[i][..lengths[i]] } else { &[] }
+}
+
+// K on piece i, at a distance from its centre.
 pub fn k_piece(i: usize, delta: f64) -> f64
     ensures { result ≡ k_piece_of i delta }
 {
-    let k = K;
-    let k_lengths = K_LENGTHS;
-    match i {
-        0 => polyeval(delta, &k[0], k_lengths[0]),
-        1 => polyeval(delta, &k[1], k_lengths[1]),
-        2 => polyeval(delta, &k[2], k_lengths[2]),
-        3 => polyeval(delta, &k[3], k_lengths[3]),
-        4 => polyeval(delta, &k[4], k_lengths[4]),
-        5 => polyeval(delta, &k[5], k_lengths[5]),
-        6 => polyeval(delta, &k[6], k_lengths[6]),
-        7 => polyeval(delta, &k[7], k_lengths[7]),
-        8 => polyeval(delta, &k[8], k_lengths[8]),
-        9 => polyeval(delta, &k[9], k_lengths[9]),
-        _ => 0.0,
-    }
+    polyeval(delta, row(&K, &K_LENGTHS, i))
 }
 
 // E there.
 pub fn e_piece(i: usize, delta: f64) -> f64
     ensures { result ≡ e_piece_of i delta }
 {
-    let e = E;
-    let e_lengths = E_LENGTHS;
-    match i {
-        0 => polyeval(delta, &e[0], e_lengths[0]),
-        1 => polyeval(delta, &e[1], e_lengths[1]),
-        2 => polyeval(delta, &e[2], e_lengths[2]),
-        3 => polyeval(delta, &e[3], e_lengths[3]),
-        4 => polyeval(delta, &e[4], e_lengths[4]),
-        5 => polyeval(delta, &e[5], e_lengths[5]),
-        6 => polyeval(delta, &e[6], e_lengths[6]),
-        7 => polyeval(delta, &e[7], e_lengths[7]),
-        8 => polyeval(delta, &e[8], e_lengths[8]),
-        9 => polyeval(delta, &e[9], e_lengths[9]),
-        _ => 0.0,
-    }
+    polyeval(delta, row(&E, &E_LENGTHS, i))
 }

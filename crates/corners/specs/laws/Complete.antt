@@ -1,5 +1,5 @@
 -- The rows of 01's corner table that are this crate's, proved together, each by computing it.
-use Rattle.std.specs.Prelude.{◌≡◌, refl, Ok, Err}
+use Rattle.std.specs.Prelude.{◌≡◌, refl, Some, Ok, Err}
 use Rattle.std.specs.Float.{nan}
 use Rattle.std.specs.Float.Ieee.{of_bits, mul, lt, eq, ne, neg, to_unsigned}
 use Rattle.laws.specs.Arithmetic.{float, dec, +0, +∞, -∞, 1·0, ε}
@@ -13,8 +13,8 @@ use Rattle.legendre.specs.Ellipke.{ellipke_of}
 
 pub record Corners : Type 0 where
   -- the f64 0.85 lies below 17/20, and 20 times it, rounded, is 17: the last of the ten pieces
-  pub piece : truncated_of (dec 85 2) ≡ 17
-  pub row : piece_of (dec 85 2) ≡ 9
+  pub piece : truncated_of (dec 85 2) ≡ Some 17
+  pub row : piece_of (dec 85 2) ≡ Some 9
   pub one : ellipke_of 1·0 ≡ Ok (Pair +∞ 1·0)
   pub lowest : ellipke_of -∞ ≡ Ok (Pair +0 +∞)
   pub above : ellipke_of (float 0x3ff0_0000_0000_0001) ≡ Err AboveOne

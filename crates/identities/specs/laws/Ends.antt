@@ -1,5 +1,6 @@
 -- The loop of ellipe.rs ends: from 1 and any y0 above 2 ^ -26 and at most 1 its test fails within 8 rounds, so that the bound on the rounds never shows. Assumes nothing.
-use Rattle.std.specs.Prelude.{◌≡◌, List, [], ◌∷◌, Bool, true, false, not, cond, ◌&&◌, ◌||◌, ℕ, zero, suc, ◌+◌, ◌-◌, ◌*◌, ◌^◌, ◌≤◌, T, ltb, Float, Ok}
+use Rattle.std.specs.Prelude.{◌≡◌, List, [], ◌∷◌, Bool, true, false, not, cond, ◌&&◌, ◌||◌, ℕ, zero, suc, ◌+◌, ◌-◌, ◌*◌, ◌^◌, ◌≤◌, T, Float, Ok}
+use Rattle.std.specs.Option.{option_map_or}
 use Rattle.std.proofs.Math.Path.{refl}
 use Rattle.std.proofs.Common.{sym, ap, ◌∙◌, subst, arith, lit≤, pow_pos}
 use native.Mathlib.Nat.{le_of_lt, suc-add, zero-add}
@@ -138,7 +139,7 @@ mean_same n y0 h w = go (y0 ≤· √ε) refl
 
 below-same : (n : ℕ) (m : Float) → 8 ≤ n → Unit m → e_below_one_of n m ≡ e_below_one_of 8 m
 unfolding e_below_one_of below_one_of
-below-same n m h u = ap (λ (z : Float). cond (ltb (piece_of m) 10) (e_piece_of (piece_of m) (m ⊖ centre_of (piece_of m))) z) (mean_same n (root_of (1·0 ⊖ m)) h (unit_start u))
+below-same n m h u = ap (option_map_or (λ i. e_piece_of i (m ⊖ centre_of i)) (piece_of m)) (mean_same n (root_of (1·0 ⊖ m)) h (unit_start u))
 
 negative-same : (n : ℕ) (m : Float) → 8 ≤ n → Negative m → e_negative_of n (root_of (1·0 ⊖ m)) (m ⊘ (m ⊖ 1·0)) ≡ e_negative_of 8 (root_of (1·0 ⊖ m)) (m ⊘ (m ⊖ 1·0))
 unfolding e_negative_of

@@ -1,8 +1,8 @@
 -- Down the tests of `by_domain` and of `below_one_of`: what they are where one holds. Assumes nothing.
-use Rattle.std.specs.Prelude.{◌≡◌, Bool, cond, ℕ, ◌≤◌, ◌<◌, T, ltb, Float, Result, Err}
+use Rattle.std.specs.Prelude.{◌≡◌, Option, Some, None, ℕ, Float, Result, Err}
+use Rattle.std.specs.Option.{option_map_or}
 use Rattle.std.proofs.Math.Path.{refl}
 use Rattle.std.proofs.Math.Bool.{true, false}
-use Rattle.std.proofs.Common.{lt-ltb, le-ltb, ltb→lt}
 use Rattle.laws.specs.Arithmetic.{◌⊖◌, ◌<·◌, ◌=·◌, ◌≠·◌, +0, -∞, 1·0}
 use Rattle.laws.specs.Ladder.{held, passed}
 use Rattle.root.specs.Root.{root_of}
@@ -38,19 +38,19 @@ module _ (m : Float) (one minusInfinity negative belowOne : Result Answer Refusa
   below_one r a b c d h e = passed _ _ a (passed _ _ b (passed _ _ c (passed _ _ d (passed _ _ h e))))
 
 module _ {A : Type 0} (byPiece : ℕ → Float → A) (byMean : Float → A) (m : Float) where
-  pub on_piece : {i : ℕ} {c : Float} {r : A} → i ≡ piece_of m → i < 10 → c ≡ centre_of i → r ≡ byPiece i (m ⊖ c) → r ≡ below_one_of byPiece byMean m
+  pub on_piece : {i : ℕ} {c : Float} {r : A} → Some i ≡ piece_of m → c ≡ centre_of i → r ≡ byPiece i (m ⊖ c) → r ≡ below_one_of byPiece byMean m
   unfolding below_one_of
-  on_piece p h q e = rw (← p, ← q) (held _ _ (lt-ltb _ _ h) e)
+  on_piece p q e = rw (← p, ← q) e
 
-  pub by_mean : {i : ℕ} {y : Float} {r : A} → i ≡ piece_of m → 10 ≤ i → y ≡ root_of (1·0 ⊖ m) → r ≡ byMean y → r ≡ below_one_of byPiece byMean m
+  pub by_mean : {y : Float} {r : A} → None ≡ piece_of m → y ≡ root_of (1·0 ⊖ m) → r ≡ byMean y → r ≡ below_one_of byPiece byMean m
   unfolding below_one_of
-  by_mean p h q e = rw (← p, ← q) (passed _ _ (le-ltb _ _ h) e)
+  by_mean p q e = rw (← p, ← q) e
 
   -- what holds of both holds
-  pub below : (P : A → Type 0) → (piece_of m < 10 → P (byPiece (piece_of m) (m ⊖ centre_of (piece_of m)))) → P (byMean (root_of (1·0 ⊖ m))) → P (below_one_of byPiece byMean m)
+  pub below : (P : A → Type 0) → ((i : ℕ) → P (byPiece i (m ⊖ centre_of i))) → P (byMean (root_of (1·0 ⊖ m))) → P (below_one_of byPiece byMean m)
   unfolding below_one_of
-  below P p q = go (ltb (piece_of m) 10) (ltb→lt (piece_of m) 10)
+  below P p q = go (piece_of m)
     where
-      go : (b : Bool) → (T b → piece_of m < 10) → P (cond b (byPiece (piece_of m) (m ⊖ centre_of (piece_of m))) (byMean (root_of (1·0 ⊖ m))))
-      go true h = p (h tt)
-      go false h = q
+      go : (o : Option ℕ) → P (option_map_or (λ i. byPiece i (m ⊖ centre_of i)) o (byMean (root_of (1·0 ⊖ m))))
+      go (Some i) = p i
+      go None = q

@@ -1,5 +1,5 @@
 -- The three functions keep Promises.antt. Assumes nothing.
-use Rattle.std.specs.Prelude.{◌≡◌, Bool, true, false, cond, ℕ, ◌^◌, ◌<◌, T, Float, Result, Err}
+use Rattle.std.specs.Prelude.{◌≡◌, Bool, true, false, cond, ℕ, ◌^◌, T, Float, Result, Err}
 use Rattle.std.proofs.Math.Path.{refl}
 use Rattle.std.proofs.Common.{sym, subst, lit<}
 use Rattle.std.proofs.Math.Dec.{lit≤}
@@ -18,7 +18,7 @@ use Rattle.answer.specs.declared.Refusal.{Refusal}
 use Rattle.answer.specs.declared.Refusal.TheVariants.{NotANumber, AboveOne}
 use Rattle.legendre.specs.declared.ke.Both.{Both}
 use Rattle.legendre.specs.Domain.{by_domain}
-use Rattle.pieces.specs.Piece.{piece_of, centre_of, k_piece_of, e_piece_of}
+use Rattle.pieces.specs.Piece.{centre_of, k_piece_of, e_piece_of}
 use Rattle.legendre.specs.Ellipk.{k_from_of, k_mean_of, k_below_one_of, ellipk_of}
 use Rattle.legendre.specs.Ellipe.{√ε, e_tolerance, near_one_of, e_from_of, last_sums_of, e_mean_of, e_below_one_of, e_negative_of, ellipe_within, ellipe_of}
 use Rattle.legendre.specs.Ellipke.{both_mean_of, both_piece_of, both_below_one_of, scaled_of, both_negative_of, pair_of, ellipke_of}
@@ -65,8 +65,8 @@ k_mean : {y0 : Float} → Within 537 1586 y0 → Fine 1345 (k_mean_of y0)
 unfolding k_mean_of
 k_mean {y0} w = record { size = last_means_k y0 w; fit = from_fits _ _ }
 
-k_piece : (m : Float) → Unit m → piece_of m < 10 → Fine 1345 (k_piece_of (piece_of m) (m ⊖ centre_of (piece_of m)))
-k_piece m u h = record { size = wider 1345 (lit≤ tt) (k_piece_small (m ⊖ centre_of (piece_of m)) (delta_small (piece_of m) h (unit_small u)) (piece_of m)); fit = unfold k_piece_of in poly_fits _ _ }
+k_piece : (m : Float) → Unit m → (i : ℕ) → Fine 1345 (k_piece_of i (m ⊖ centre_of i))
+k_piece m u i = record { size = wider 1345 (lit≤ tt) (k_piece_small (m ⊖ centre_of i) (delta_small i (unit_small u)) i); fit = unfold k_piece_of in poly_fits _ _ }
 
 k-below : (m : Float) → Unit m → Fine 1345 (k_below_one_of m)
 unfolding k_below_one_of
@@ -95,8 +95,8 @@ e_mean {y0} w = go (y0 ≤· √ε)
     go true = near-one w
     go false = record { size = (last_sums_ended e_tolerance y0 w).e; fit = unfold e_from_of in mul-fits binary64 _ _ }
 
-e_piece : (m : Float) → Unit m → piece_of m < 10 → Fine 1569 (e_piece_of (piece_of m) (m ⊖ centre_of (piece_of m)))
-e_piece m u h = record { size = wider 1569 (lit≤ tt) (e_piece_small (m ⊖ centre_of (piece_of m)) (delta_small (piece_of m) h (unit_small u)) (piece_of m)); fit = unfold e_piece_of in poly_fits _ _ }
+e_piece : (m : Float) → Unit m → (i : ℕ) → Fine 1569 (e_piece_of i (m ⊖ centre_of i))
+e_piece m u i = record { size = wider 1569 (lit≤ tt) (e_piece_small (m ⊖ centre_of i) (delta_small i (unit_small u)) i); fit = unfold e_piece_of in poly_fits _ _ }
 
 e-below : (m : Float) → Unit m → Fine 1569 (e_below_one_of 32 m)
 unfolding e_below_one_of
@@ -118,7 +118,7 @@ both_mean {y0} w =
 
 both_below : (m : Float) → Unit m → FineBoth (both_below_one_of m)
 unfolding both_below_one_of both_piece_of
-both_below m u = below both_piece_of both_mean_of m FineBoth (λ h. record { k = k_piece m u h; e = e_piece m u h }) (both_mean (unit_start u))
+both_below m u = below both_piece_of both_mean_of m FineBoth (λ i. record { k = k_piece m u i; e = e_piece m u i }) (both_mean (unit_start u))
 
 -- ---- below 0
 module _ (m : Float) (n : Negative m) where

@@ -1,6 +1,6 @@
 -- K and E on the pieces are finite: every coefficient is below 2 ^ 60, a test that is computed once over the tables. Assumes nothing.
 use Rattle.std.specs.Prelude.{◌≡◌, ℕ, zero, suc, ◌+◌, ◌*◌, ◌^◌, ◌<◌, ◌≤◌, Bool, true, false, cond, ◌&&◌, T, List, [], ◌∷◌, length, get_or, ◌==◌, nat_le, slice_index_or, refl, Float}
-use Rattle.std.proofs.Common.{sym, le_trans, le_of_eq, le_of_mul-le-mul_right, not-suc-le-zero, le_of_suc-le-suc, eqb→eq, lit≤, lit<}
+use Rattle.std.proofs.Common.{sym, ⊎_elim, le_trans, le_of_eq, le_of_mul-le-mul_right, not-suc-le-zero, le_of_suc-le-suc, eqb→eq, lit≤, lit<}
 use Rattle.std.proofs.Math.Path.{subst}
 use native.Mathlib.Omega.{arith}
 use Rattle.std.proofs.Math.Dec.{leb→le}
@@ -8,6 +8,8 @@ use Rattle.std.specs.Float.Ieee.{nan, fits, up, down, of_bits, neg}
 use Rattle.std.specs.Float.{inf, fin, binary64}
 use Rattle.std.specs.Float.Ieee.Bits.{of_bits-fits}
 use Rattle.std.specs.Float.Ieee.Fits.{down_pos, and_l, and_r, add-fits, cond-fits}
+use Rattle.std.proofs.lemmas.List.{get_or_past}
+use Rattle.laws.specs.laws.Flags.{lt-or-le}
 use Rattle.laws.specs.Arithmetic.{◌⊕◌, ◌⊖◌, ◌⊗◌, dec, +0}
 use Rattle.pieces.specs.Coeffs.{k_rows, e_rows}
 use Rattle.pieces.specs.Polyeval.{paired_of, horner_of, polyeval_of}
@@ -60,15 +62,15 @@ e_rows_sound : T (all_sound e_rows)
 unfolding e_rows dec neg
 e_rows_sound = tt
 
+zero_small : (j : ℕ) → Small j +0
+unfolding of_bits
+zero_small j = record { sign = false; units = 0; value = (refl, refl); most = none (2 ^ j) }
+  where
+    none : (n : ℕ) → 0 ≤ n
+    none n = omega arith
+
 -- ---- the two forms
 module _ (x : Float) (s : Small 1075 x) where
-  zero_small : (j : ℕ) → Small j +0
-  unfolding of_bits
-  zero_small j = record { sign = false; units = 0; value = (refl, refl); most = none (2 ^ j) }
-    where
-      none : (n : ℕ) → 0 ≤ n
-      none n = omega arith
-
   horner_small : (c : List Float) → T (every 1134 c) → length c ≤ 400 → Small (1134 + 2 * length c) (horner_of x c)
   unfolding horner_of
   horner_small [] t l = zero_small 1134
@@ -132,12 +134,12 @@ module _ (x : Float) (s : Small 1075 x) where
   e_piece_small i = poly_small (slice_index_or e_rows i []) (sound-at e_rows e_rows_sound i)
 
 -- ---- the distance from the centre
-centre_small : (i : ℕ) → i < 10 → Small 1074 (centre_of i)
+centre_small : (i : ℕ) → Small 1074 (centre_of i)
 unfolding centre_of dec
-centre_small i h = at 1074 +0 centres tt i h
+centre_small i = ⊎_elim (at 1074 +0 centres tt i) (λ h. let e : +0 ≡ centre_of i = sym (get_or_past centres i +0 h) in subst (λ (c : Float). Small 1074 c) e (zero_small 1074)) (lt-or-le i 10)
 
-pub delta_small : {m : Float} (i : ℕ) → i < 10 → Small 1074 m → Small 1075 (m ⊖ centre_of i)
-delta_small i h s = small_sub (lit< tt) s (centre_small i h)
+pub delta_small : {m : Float} (i : ℕ) → Small 1074 m → Small 1075 (m ⊖ centre_of i)
+delta_small i s = small_sub (lit< tt) s (centre_small i)
 
 -- ---- and they are f64
 horner_fits : (x : Float) (c : List Float) → T (fits binary64 (horner_of x c))

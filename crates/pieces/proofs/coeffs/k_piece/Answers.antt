@@ -1,52 +1,14 @@
--- Each arm evaluates its own row: the table's numbers are the definition's, computed (Rows.antt).
-use Rattle.std.proofs.Common.{◌≤◌, refl, arith}
+-- The table without its padding is the definition's, computed.
+use Rattle.std.proofs.Common.{refl, ap, ◌∙◌}
 use lib.Ieee.{of_bits, neg}
 use Rattle.laws.specs.Arithmetic.{dec}
 use Rattle.pieces.specs.Coeffs.{k_rows}
+use Rattle.pieces.specs.Polyeval.{polyeval_of}
 use Rattle.pieces.specs.Piece.{k_piece_of}
-use Rattle.pieces.proofs.Rows.{arm, beyond}
+use Rattle.pieces.specs.declared.coeffs.TheConstants.{K, K_LENGTHS}
+use Rattle.pieces.proofs.Rows.{picked}
 use Rattle.pieces.proofs.coeffs.k_piece.Goals as goal
 
-pub returns-in-0 : goal.returns-in-0
+pub returns : goal.returns
 unfolding k_piece_of k_rows dec of_bits neg
-returns-in-0 c = arm k_rows _ _ c.in-0.is c.polyeval.ensures refl
-
-pub returns-in-1 : goal.returns-in-1
-unfolding k_piece_of k_rows dec of_bits neg
-returns-in-1 c = arm k_rows _ _ c.in-1.is c.polyeval-in-1.ensures refl
-
-pub returns-in-2 : goal.returns-in-2
-unfolding k_piece_of k_rows dec of_bits neg
-returns-in-2 c = arm k_rows _ _ c.in-2.is c.polyeval-in-2.ensures refl
-
-pub returns-in-3 : goal.returns-in-3
-unfolding k_piece_of k_rows dec of_bits neg
-returns-in-3 c = arm k_rows _ _ c.in-3.is c.polyeval-in-3.ensures refl
-
-pub returns-in-4 : goal.returns-in-4
-unfolding k_piece_of k_rows dec of_bits neg
-returns-in-4 c = arm k_rows _ _ c.in-4.is c.polyeval-in-4.ensures refl
-
-pub returns-in-5 : goal.returns-in-5
-unfolding k_piece_of k_rows dec of_bits neg
-returns-in-5 c = arm k_rows _ _ c.in-5.is c.polyeval-in-5.ensures refl
-
-pub returns-in-6 : goal.returns-in-6
-unfolding k_piece_of k_rows dec of_bits neg
-returns-in-6 c = arm k_rows _ _ c.in-6.is c.polyeval-in-6.ensures refl
-
-pub returns-in-7 : goal.returns-in-7
-unfolding k_piece_of k_rows dec of_bits neg
-returns-in-7 c = arm k_rows _ _ c.in-7.is c.polyeval-in-7.ensures refl
-
-pub returns-in-8 : goal.returns-in-8
-unfolding k_piece_of k_rows dec of_bits neg
-returns-in-8 c = arm k_rows _ _ c.in-8.is c.polyeval-in-8.ensures refl
-
-pub returns-in-9 : goal.returns-in-9
-unfolding k_piece_of k_rows dec of_bits neg
-returns-in-9 c = arm k_rows _ _ c.in-9.is c.polyeval-in-9.ensures refl
-
-pub returns-in_default : goal.returns-in_default
-unfolding k_piece_of k_rows dec of_bits neg
-returns-in_default c = let h : 10 ≤ c.args.i = omega arith in beyond k_rows _ _ h
+returns c = c.polyeval.ensures ∙ ap (polyeval_of c.args.delta) (picked K_LENGTHS K k_rows refl refl refl refl _ c.row.ensures.within c.row.ensures.beyond)

@@ -30,9 +30,9 @@ pub returns-then-k-lt16 : goal.returns-then-k-lt16
 unfolding of_bits neg piece_of truncated_of row_of
 returns-then-k-lt16 c = simp (c.if-t.true, ← c.truncating_f64_to_u64-k.ensures, lt-ltb _ _ c.if-k-lt16.true)
 
-pub returns-then-t : goal.returns-then-t
+pub returns-else-k-lt16 : goal.returns-else-k-lt16
 unfolding of_bits neg piece_of truncated_of row_of
-returns-then-t c = simp (c.if-t.true, ← c.truncating_f64_to_u64-k.ensures, le-ltb _ _ c.if-k-lt16.false)
+returns-else-k-lt16 c = simp (c.if-t.true, ← c.truncating_f64_to_u64-k.ensures, le-ltb _ _ c.if-k-lt16.false)
 
 pub returns : goal.returns
 unfolding of_bits neg piece_of truncated_of row_of

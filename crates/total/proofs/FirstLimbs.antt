@@ -1,8 +1,8 @@
 -- The number of the first limbs, and what one limb more makes of it. Assumes nothing.
-use Rattle.std.proofs.Common.{◌≡◌, ℕ, zero, suc, ◌+◌, ◌*◌, ◌<◌, ◌≤◌, List, [], ◌∷◌, length, get_or, take, set, sym, refl, ap, ◌∙◌, le_of_suc-le-suc, not-suc-le-zero, add-zero, lt_irrefl, mul-zero, mul-add, arith, take_all}
-use Rattle.total.specs.Total.{val, N}
+use Rattle.std.proofs.Common.{◌≡◌, ℕ, zero, suc, ◌+◌, ◌*◌, ◌<◌, ◌≤◌, List, [], ◌∷◌, length, get_or, take, refl, ap, ◌∙◌, le_of_suc-le-suc, not-suc-le-zero, add-zero, add-one, lt_irrefl, mul-zero, arith}
+use Rattle.total.specs.Total.{val}
 use Rattle.total.specs.Carry.{W}
-use Rattle.total.specs.laws.Limbs.{W-34, W-next, val_next, val-set_next}
+use Rattle.total.specs.laws.Limbs.{val_next}
 
 pub val-none : (l : List ℕ) → val (take 0 l) ≡ 0
 unfolding val
@@ -21,17 +21,35 @@ some_at (x ∷ xs) i zero h p = absurd (not-suc-le-zero h)
 some_at (x ∷ xs) zero (suc n) h p = omega arith
 some_at (x ∷ xs) (suc i) (suc n) h p = let g = some_at xs i n (le_of_suc-le-suc h) p in omega arith
 
--- ---- digits turned over: one less than the next weight
-turn : (w a b x z w' : ℕ) → w' ≡ 0x1_0000_0000_0000_0000 * w → a + b + 1 ≡ w → z + x + 1 ≡ 0x1_0000_0000_0000_0000 → (a + w * z) + (b + w * x) + 1 ≡ w'
-turn w a b x z w' e h k = let m = simp mul-add at (ap (λ (n : ℕ). w * n) k) in omega (arith, m)
+-- ---- digits turned over: one less than the weight above them
+pub turned : (l out : List ℕ) → length out ≡ length l → ((i : ℕ) → i < length l → get_or out i 0 + get_or l i 0 + 1 ≡ 0x1_0000_0000_0000_0000) → val out + val l + 1 ≡ W (length l)
+unfolding val W
+turned [] [] e h = refl
+turned [] (z ∷ zs) e h = absurd (omega arith)
+turned (x ∷ xs) [] e h = absurd (omega arith)
+turned (x ∷ xs) (z ∷ zs) e h =
+    let first : z + x + 1 ≡ 0x1_0000_0000_0000_0000 = h 0 (omega arith) in
+    let rest = turned xs zs (omega arith) (λ i k. h (suc i) (omega arith)) in
+    omega (arith, rest)
 
-pub turn_next : (l out : List ℕ) (i z : ℕ) → i < length l → i < length out → val (take i out) + val (take i l) + 1 ≡ W i → z + get_or l i 0 + 1 ≡ 0x1_0000_0000_0000_0000
-    → val (take (i + 1) (set out i z)) + val (take (i + 1) l) + 1 ≡ W (i + 1)
-turn_next l out i z h g e k =
-    rw (val-set_next out i z g, val_next l i h) (turn (W i) (val (take i out)) (val (take i l)) (get_or l i 0) z (W (i + 1)) (W-next i) e k)
+-- ---- the highest limb that is not zero
+-- zeros alone stand for zero
+pub all-zero : (l : List ℕ) → ((k : ℕ) → k < length l → get_or l k 0 ≡ 0) → val l ≡ 0
+unfolding val
+all-zero [] h = refl
+all-zero (x ∷ xs) h =
+    let first : x ≡ 0 = h 0 (omega arith) in
+    let rest = all-zero xs (λ k b. h (suc k) (omega arith)) in
+    omega (arith, rest)
 
-pub turned-all : (l out : List ℕ) (i : ℕ) → length l ≡ 34 → length out ≡ 34 → i ≡ 34 → val (take i out) + val (take i l) + 1 ≡ W i → val out + val l + 1 ≡ N
-turned-all l out i h g e k =
-    let a : take i out ≡ out = take_all i out (omega arith) in
-    let b : take i l ≡ l = take_all i l (omega arith) in
-    (λ j. val (sym a j) + val (sym b j) + 1) ∙ k ∙ ap W e ∙ W-34
+-- and above a limb they change nothing
+pub zeros_above : (l : List ℕ) (at : ℕ) → ((k : ℕ) → at < k → k < length l → get_or l k 0 ≡ 0) → val (take (at + 1) l) ≡ val l
+unfolding val
+zeros_above [] zero h = refl
+zeros_above [] (suc at) h = rw add-one refl
+zeros_above (x ∷ xs) zero h =
+    let rest = all-zero xs (λ k b. h (suc k) (omega arith) (omega arith)) in
+    omega (arith, rest)
+zeros_above (x ∷ xs) (suc at) h =
+    let rest = zeros_above xs at (λ k b c. h (suc k) (omega arith) (omega arith)) in
+    rw add-one (ap (λ (v : ℕ). x + 0x1_0000_0000_0000_0000 * v) (rw add-one at rest))

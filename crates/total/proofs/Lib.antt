@@ -2,4 +2,5 @@
 pub mod Carrying
 pub mod Adding
 pub mod FirstLimbs
+pub mod Lent
 pub mod TopLimbs

@@ -1,5 +1,7 @@
 -- The highest limbs are what the one rounding is handed. Assumes nothing.
-use Rattle.std.proofs.Common.{◌≡◌, ℕ, zero, suc, ◌+◌, ◌-◌, ◌*◌, ◌^◌, ◌<◌, ◌≤◌, Bool, true, false, cond, ltb, leb, List, [], ◌∷◌, length, get_or, take, sym, refl, ap, ◌∙◌, subst, le_trans, le_of_eq, lt_of_lt_of_le, mod-eq_of_lt, mul-le-mul_left, arith, lit<, lit≤, length-take-le, take_all, pow_pos}
+use Rattle.std.proofs.Common.{◌≡◌, ℕ, zero, suc, ◌+◌, ◌-◌, ◌*◌, ◌^◌, ◌<◌, ◌≤◌, Bool, true, false, cond, ltb, leb, List, [], ◌∷◌, Option, None, Some, MatchOption, unwrap_or, max, length, get_or, take, sym, refl, ap, ◌∙◌, subst, le_trans, le_of_eq, lt_of_lt_of_le, mod-eq_of_lt, mul-le-mul_left, arith, lit<, lit≤, take_all, pow_pos}
+use Rattle.std.specs.Option.{is_some as has_some}
+use Rattle.laws.specs.laws.Flags.{is_some, is_none}
 use borrow.Author.Tests.{lt-leb}
 use lib.Ieee.{round, binary64}
 use Rattle.bits.specs.Rounded.{Kept, rounded_of}
@@ -7,32 +9,33 @@ use Rattle.bits.specs.laws.Keeping.{kept-digits, kept_self, kept_scaled}
 use Rattle.bits.specs.laws.Once.{rounded_kept, rounded_exact, round-shift}
 use Rattle.total.specs.Total.{val, N, Half, limbs_of, complement, size_of_total, round_total}
 use Rattle.total.specs.Carry.{W}
-use Rattle.total.specs.laws.Limbs.{Fit, W-pow, W-next, val-below, val-lt, val_limbs, val_next}
-use Rattle.total.proofs.FirstLimbs.{val-none}
+use Rattle.total.specs.laws.Limbs.{Fit, W-pow, W-next, val-lt, val_limbs, val_next, fit_first}
+use Rattle.total.proofs.FirstLimbs.{val-none, some_at}
 
-fit_take : (l : List ℕ) (n : ℕ) → Fit l → Fit (take n l)
-fit_take l zero f i = lit< tt
-fit_take [] (suc n) f i = lit< tt
-fit_take (x ∷ xs) (suc n) f zero = f zero
-fit_take (x ∷ xs) (suc n) f (suc i) = fit_take xs n (λ k. f (suc k)) i
-
-fit_first : (l : List ℕ) (n : ℕ) → n ≤ length l → Fit l → val (take n l) < W n
-fit_first l n h f = subst (λ (k : ℕ). val (take n l) < W k) (length-take-le n l h) (val-below (take n l) (fit_take l n f))
+take-most : (n : ℕ) (l : List ℕ) → val (take n l) ≤ val l
+unfolding val
+take-most zero l = omega arith
+take-most (suc n) [] = omega arith
+take-most (suc n) (x ∷ xs) = omega (arith, take-most n xs)
 
 -- ---- to the one rounding
--- only the lowest limb
-pub round-one : (s : Bool) (l : List ℕ) (t : ℕ) → t ≡ 0 → t < length l → val (take (t + 1) l) ≡ val l → rounded_of s (get_or l 0 0) false 1266 ≡ round binary64 s (val l) (2 ^ 1074)
+-- the two lowest limbs, which are exact
+round_exact : (s : Bool) (l : List ℕ) → 1 < length l → val (take 2 l) ≡ val l → rounded_of s (get_or l 1 0 * 2 ^ 64 + get_or l 0 0) false 1266 ≡ round binary64 s (val l) (2 ^ 1074)
 unfolding W
-round-one s l t z h e =
-    let x = get_or l 0 0 in
-    let v : val l ≡ x = sym e ∙ val_next l t h ∙ (λ i. val (take (z i) l) + W (z i) * get_or l (z i) 0) ∙ ap (λ (n : ℕ). n + 1 * x) (val-none l) ∙ omega arith in
-    rounded_exact s (x * 2 ^ 1266) x 1266 (kept_self x 1266)
-    ∙ round-shift binary64 s x 1074 1266
+round_exact s l h e =
+    let x = get_or l 1 0 in
+    let y = get_or l 0 0 in
+    let w = x * 2 ^ 64 + y in
+    let two : val (take 2 l) ≡ val (take 1 l) + W 1 * x = val_next l 1 h in
+    let one : val (take 1 l) ≡ val (take 0 l) + W 0 * y = val_next l 0 (omega arith) in
+    let v : val l ≡ w = omega (arith, e, two, one, val-none l) in
+    rounded_exact s (w * 2 ^ 1266) w 1266 (kept_self w 1266)
+    ∙ round-shift binary64 s w 1074 1266
     ∙ ap (λ (n : ℕ). round binary64 s n (2 ^ 1074)) (sym v)
 
 -- two limbs, and those below
-pub round-two : (s : Bool) (l : List ℕ) (t : ℕ) (more : Bool) → 0 < t → t < length l → Fit l → val (take (t + 1) l) ≡ val l → 0 < get_or l t 0 → more ≡ ltb 0 (val (take (t - 1) l))
-    → rounded_of s (get_or l t 0 * 2 ^ 64 + get_or l (t - 1) 0) more (64 * t + 1202) ≡ round binary64 s (val l) (2 ^ 1074)
+round-two : (s : Bool) (l : List ℕ) (t : ℕ) (more : Bool) → 0 < t → t < length l → Fit l → val (take (t + 1) l) ≡ val l → 0 < get_or l t 0 → more ≡ ltb 0 (val (take (t - 1) l))
+    → rounded_of s (get_or l t 0 * 2 ^ 64 + get_or l (t - 1) 0) more (64 * (t - 1) + 1266) ≡ round binary64 s (val l) (2 ^ 1074)
 round-two s l t more p h f e top m =
     let j = t - 1 in
     let x = get_or l t 0 in
@@ -45,9 +48,7 @@ round-two s l t more p h f e top m =
     let c : W t ≡ 0x1_0000_0000_0000_0000 * W j = ap W tj ∙ W-next j in
     let v : val l ≡ w * 2 ^ (64 * j) + r = a ∙ (λ i. b i + c i * x) ∙ join r (W j) y x ∙ ap (λ (n : ℕ). w * n + r) (W-pow j) in
     let k : Kept (val l) w (64 * j) more = kept-digits (val l) w (64 * j) r more v (subst (λ (n : ℕ). r < n) (W-pow j) (fit_first l j (omega arith) f)) (sym m) in
-    let q : 64 * j + 1266 ≡ 64 * t + 1202 = omega arith in
-    ap (rounded_of s w more) (sym q)
-    ∙ rounded_kept s (val l * 2 ^ 1266) w (64 * j + 1266) more (kept_scaled (val l) w (64 * j) 1266 more k) (le_trans (lit≤ tt) (enough x y top))
+    rounded_kept s (val l * 2 ^ 1266) w (64 * j + 1266) more (kept_scaled (val l) w (64 * j) 1266 more k) (le_trans (lit≤ tt) (enough x y top))
     ∙ round-shift binary64 s (val l) 1074 1266
   where
     join : (r w y x : ℕ) → r + w * y + 0x1_0000_0000_0000_0000 * w * x ≡ (x * 2 ^ 64 + y) * w + r
@@ -55,6 +56,39 @@ round-two s l t more p h f e top m =
 
     enough : (x y : ℕ) → 0 < x → 2 ^ 64 ≤ x * 2 ^ 64 + y
     enough x y h = omega arith
+
+-- what the search for the highest limb finds
+abbrev pub Found : List ℕ → Option ℕ → Type 0
+Found l r = MatchOption r (val l ≡ 0) (λ at. (at < length l) × (val (take (at + 1) l) ≡ val l) × (0 < get_or l at 0))
+
+-- whether it finds one says whether the number is not zero
+pub found_some : (l : List ℕ) (r : Option ℕ) → Found l r → has_some r ≡ ltb 0 (val l)
+found_some l None z = sym (is_none (val l) (le_of_eq z))
+found_some l (Some at) h =
+    let v : 0 < val (take (at + 1) l) = some_at l at (at + 1) (omega arith) h.2 in
+    sym (is_some (val l) (subst (λ (n : ℕ). 0 < n) h.1 v))
+
+-- limb t and the one below it, and whether more is left, round as the number does
+abbrev pub Rounds : Bool → List ℕ → ℕ → Bool → Type 0
+Rounds s l t more = rounded_of s (get_or l t 0 * 2 ^ 64 + get_or l (t - 1) 0) more (64 * (t - 1) + 1266) ≡ round binary64 s (val l) (2 ^ 1074)
+
+-- the limb that it finds, or one above it, is the higher of two
+pub round_found : (s : Bool) (l : List ℕ) (r : Option ℕ) (t : ℕ) (more : Bool) → length l ≡ 34 → Fit l → Found l r → t ≡ max (unwrap_or r 0) 1 → more ≡ ltb 0 (val (take (t - 1) l))
+    → Rounds s l t more
+round_found s l r t more e f h k m = by_place r h k
+  where
+    at-one : t ≡ 1 → val (take 1 l) ≡ val l → Rounds s l t more
+    at-one z v =
+        let two : val (take 2 l) ≡ val l = omega (arith, v, val_next l 1 (omega arith), take-most 2 l) in
+        let none : more ≡ false = m ∙ ap (λ (n : ℕ). ltb 0 (val (take (n - 1) l))) z ∙ is_none (val (take 0 l)) (le_of_eq (val-none l)) in
+        subst (λ (n : ℕ). Rounds s l n more) (sym z) (subst (λ (b : Bool). Rounds s l 1 b) (sym none) (round_exact s l (omega arith) two))
+
+    by_place : (r : Option ℕ) → Found l r → t ≡ max (unwrap_or r 0) 1 → Rounds s l t more
+    by_place None z k = at-one k (let low = take-most 1 l in omega (arith, low, z))
+    by_place (Some zero) h k = at-one k h.1
+    by_place (Some (suc j)) h k =
+        let z : t ≡ suc j = omega arith in
+        round-two s l t more (omega arith) (omega arith) f (subst (λ (n : ℕ). val (take (n + 1) l) ≡ val l) (sym z) h.1) (subst (λ (n : ℕ). 0 < get_or l n 0) (sym z) h.2) m
 
 -- ---- the sign
 at_least : (w h H x a : ℕ) → w * h ≡ H → h ≤ x → H ≤ a + w * x

@@ -7,24 +7,27 @@ ghost use Rattle.total.specs.Total.{val, limbs_of, add_of, take_of, size_of_tota
 mod limbs;
 mod rounding;
 
-pub use rounding::Signed;
+pub use rounding::{Signed, highest};
+
+// 2,176 digits: 2,098 of the largest value, 16 for how often it counts, and room for many of them.
+pub const LIMBS: usize = 34;
 
 #[derive(Clone, Copy)]
 pub struct Total {
-    pub limbs: [u64; 34],
+    pub limbs: [u64; LIMBS],
 }
 
 impl Total {
     pub fn zero() -> Total
         ensures { (val result.limbs ≡ 0) × (result.limbs ≡ limbs_of 0) }
     {
-        Total { limbs: [0u64; 34] }
+        Total { limbs: [0; LIMBS] }
     }
 
-    pub fn of(limbs: [u64; 34]) -> Total
+    pub fn of(limbs: [u64; LIMBS]) -> Total
         ensures { result.limbs ≡ limbs }
     {
-        Total { limbs: limbs }
+        Total { limbs }
     }
 
     // x added so many times. NaN or an infinity leaves the total as it stands.
@@ -52,7 +55,7 @@ impl Total {
     }
 
     // The limbs, handed back.
-    pub fn limbs(self) -> [u64; 34]
+    pub fn limbs(self) -> [u64; LIMBS]
         ensures { result ≡ self.limbs }
     {
         self.limbs
@@ -62,16 +65,14 @@ impl Total {
     pub fn size(self) -> Signed
         ensures { (result ≡ signed_of (val self.limbs)) × (val result.limbs ≡ size_of_total (val self.limbs)) }
     {
-        let held = self.limbs;
-        rounding::sized(held)
+        rounding::sized(self.limbs)
     }
 
     // The total rounded once.
     pub fn rounded(self) -> f64
         ensures { result ≡ round_total (val self.limbs) }
     {
-        let signed = self.size();
-        let size = signed.limbs;
-        rounding::round_size(signed.negative, size)
+        let Signed { negative, limbs } = self.size();
+        rounding::round_size(negative, limbs)
     }
 }

@@ -7,13 +7,8 @@
 // one after the other, and each carry goes up as far as it must. The limbs are lent and not copied.
 ghost use Rattle.std.specs.Prelude.{◌≡◌, ◌+◌, ◌*◌, ◌^◌, ◌<◌, ◌≤◌, [], ◌∷◌, length};
 ghost use Rattle.total.specs.Total.{val, limbs_of, complement};
+ghost use Rattle.std.specs.Int.{from_bool};
 ghost use Rattle.total.specs.Carry.{Balance, W};
-
-#[derive(Clone, Copy)]
-pub struct Limb {
-    pub limb: u64,
-    pub carry: u64,
-}
 
 // Three limbs, least first.
 #[derive(Clone, Copy)]
@@ -23,33 +18,14 @@ pub struct Words {
     pub high: u64,
 }
 
-// One limb with a word added, or taken away, and what that carries into the next or borrows from it.
-fn step(limb: u64, word: u64, away: bool) -> Limb
-    ensures { Balance away result.limb limb word (0x1_0000_0000_0000_0000 * result.carry) }
+// One limb with a word added, or taken away, and whether that carries 1 into the next or borrows it from there.
+fn step(limb: u64, word: u64, away: bool) -> (u64, bool)
+    ensures { Balance away result.0 limb word (0x1_0000_0000_0000_0000 * from_bool result.1) }
 {
     if away {
-        let left = std::num::wrapping_sub_u64(limb, word);
-        if limb < word {
-            return Limb {
-                limb: left,
-                carry: 1,
-            };
-        }
-        return Limb {
-            limb: left,
-            carry: 0,
-        };
-    }
-    let sum = std::num::wrapping_add_u64(limb, word);
-    if sum < limb {
-        return Limb {
-            limb: sum,
-            carry: 1,
-        };
-    }
-    Limb {
-        limb: sum,
-        carry: 0,
+        limb.overflowing_sub(word)
+    } else {
+        limb.overflowing_add(word)
     }
 }
 
@@ -59,16 +35,14 @@ pub(crate) fn ripple(limbs: &mut [u64], at: usize, word: u64, away: bool)
     requires { (length limbs.old ≡ 34) × (at < 34) }
     ensures { limbs.new ≡ limbs_of (val limbs.old + complement away (W at * word)) }
 {
-    let mut i = at;
     let mut carry = word;
-    while i < 34 {
-        if carry == 0 {
+    for limb in &mut limbs[at..] {
+        let (sum, carried) = step(*limb, carry, away);
+        *limb = sum;
+        if !carried {
             return;
         }
-        let s = step(limbs[i], carry, away);
-        limbs[i] = s.limb;
-        carry = s.carry;
-        i += 1;
+        carry = 1;
     }
 }
 

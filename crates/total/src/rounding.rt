@@ -1,94 +1,57 @@
 // A number of 34 limbs in two's complement, rounded once.
-ghost use Rattle.std.specs.Prelude.{◌≡◌, ◌+◌, ◌-◌, ◌^◌, ◌<◌, ◌≤◌, take, nat_lt, slice_index};
+ghost use Rattle.std.specs.Prelude.{◌≡◌, ◌+◌, ◌-◌, ◌^◌, ◌<◌, ◌≤◌, length, take, nat_lt, slice_index, MatchOption};
 ghost use Rattle.std.specs.Float.Ieee.{round};
 ghost use Rattle.std.specs.Float.{binary64};
 ghost use Rattle.total.specs.Total.{val, limbs_of, size_of_total, signed_of, N};
 
+use super::LIMBS;
 use super::limbs::ripple;
 
-// Whether any of the first n limbs is not 0.
-fn any_below(limbs: [u64; 34], n: usize) -> bool
-    requires { n ≤ 34 }
-    ensures { result ≡ nat_lt 0 (val (take n limbs)) }
-{
-    let mut i: usize = 0;
-    while i < n {
-        if limbs[i] > 0 {
-            return true;
-        }
-        i += 1;
-    }
-    false
-}
+// Of the highest limb: a number from here on is negative.
+const TOP_BIT: u64 = 1 << 63;
 
-// The place of the highest limb that is not 0, and 0 where there is none.
-fn highest(limbs: [u64; 34]) -> usize
-    ensures { (result < 34) × (val (take (result + 1) limbs) ≡ val limbs) × (0 < result → 0 < slice_index limbs result) }
-{
-    let mut i: usize = 33;
-    while i > 0 {
-        if limbs[i] > 0 {
-            return i;
-        }
-        i -= 1;
-    }
-    0
-}
+// Where a total's units of 2^-1074 stand in the one rounding, which counts from 2^-2340.
+const UNIT: u64 = 1266;
 
-// Each digit turned over.
-fn turned(limbs: [u64; 34]) -> [u64; 34]
-    ensures { val result + val limbs + 1 ≡ N }
+// The place of the highest limb that is not 0.
+pub fn highest(limbs: &[u64]) -> Option<usize>
+    ensures { MatchOption result (val limbs.now ≡ 0) (λ at. (at < length limbs.now) × (val (take (at + 1) limbs.now) ≡ val limbs.now) × (0 < slice_index limbs.now at)) }
 {
-    let mut out = limbs;
-    let mut i: usize = 0;
-    while i < 34 {
-        out[i] = 0xffff_ffff_ffff_ffff - limbs[i];
-        i += 1;
-    }
-    out
+    limbs.iter().rposition(|limb| *limb != 0)
 }
 
 // N less a number: its digits turned over, and 1 added.
-fn negated(limbs: [u64; 34]) -> [u64; 34]
+fn negated(limbs: [u64; LIMBS]) -> [u64; LIMBS]
     ensures { result ≡ limbs_of (N - val limbs) }
 {
-    let mut out = turned(limbs);
+    let mut out = limbs.map(|limb| !limb);
     ripple(&mut out, 0, 1, false);
     out
 }
 
 // A number without its sign: the two highest limbs, and whether anything is left below them, go to the one rounding.
-pub(crate) fn round_size(negative: bool, limbs: [u64; 34]) -> f64
+pub(crate) fn round_size(negative: bool, limbs: [u64; LIMBS]) -> f64
     ensures { result ≡ round binary64 negative (val limbs) (2 ^ 1074) }
 {
-    let at = highest(limbs);
-    if at == 0 {
-        return bits::rounded(negative, u128::from(limbs[0]), false, 1266);
-    }
-    let more = any_below(limbs, at - 1);
-    let two = (u128::from(limbs[at]) << 64) + u128::from(limbs[at - 1]);
-    bits::rounded(negative, two, more, 64 * (at as u64) + 1202)
+    let top = highest(&limbs).unwrap_or(0).max(1);
+    let more = highest(&limbs[..top - 1]).is_some();
+    let digits = (u128::from(limbs[top]) << 64) + u128::from(limbs[top - 1]);
+    bits::rounded(negative, digits, more, 64 * (top as u64 - 1) + UNIT)
 }
 
 // The sign of a number and its size.
 #[derive(Clone, Copy)]
 pub struct Signed {
     pub negative: bool,
-    pub limbs: [u64; 34],
+    pub limbs: [u64; LIMBS],
 }
 
-pub(crate) fn sized(limbs: [u64; 34]) -> Signed
+pub(crate) fn sized(limbs: [u64; LIMBS]) -> Signed
     ensures { (result ≡ signed_of (val limbs)) × (val result.limbs ≡ size_of_total (val limbs)) }
 {
-    if limbs[33] >= 0x8000_0000_0000_0000 {
-        let size = negated(limbs);
-        return Signed {
-            negative: true,
-            limbs: size,
-        };
-    }
+    let negative = limbs[LIMBS - 1] >= TOP_BIT;
     Signed {
-        negative: false,
-        limbs: limbs,
+        negative,
+        limbs: if negative { negated(limbs) } else { limbs },
     }
 }

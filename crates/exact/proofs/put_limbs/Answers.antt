@@ -1,49 +1,81 @@
--- The digits of the highest limbs stand in the buffer.
-use mathlib.Core.Path.{◌≡◌, refl}
-use Prim.Native.Nat.{ℕ, ◌-◌, ◌<◌}
-use native.Mathlib.Numerals.{add-one}
-use native.Mathlib.Omega.{arith}
-use mathlib.Core.List.{List, []}
-use lib.ListN.{length}
-use lib.Dec.{ltb}
-use Rattle.exact.specs.Exact.{limb_of}
-use Rattle.text.specs.laws.Lines.{none_yet, one_more_lem}
-use Rattle.exact.specs.laws.Hex.{upper, after, upper-none, upper-all, some_more, hex_more, hex_none}
-use Rattle.exact.proofs.put_limbs.Invariants.{highest}
+-- The digits of the highest limbs stand in the buffer; the others are what is left of them.
+use Rattle.std.proofs.Common.{◌≡◌, [], ◌∷◌, ◌++◌, ◌+◌, ◌-◌, ◌*◌, ◌<◌, true, length, drop, get_or, ℕ, List, sym, ap, ◌∙◌, arith, rules, append_assoc, append-nil, length-append}
+use Rattle.std.proofs.Math.Seq.{drop-append_seam, drop-length, get_or-append_seam}
+use Rattle.total.specs.Total.{val}
+use Rattle.text.specs.Text.{digits_of}
+use Rattle.text.specs.laws.Digits.{digits-length}
+use Rattle.placing.specs.Placed.{Placed}
+use Rattle.placing.specs.laws.Placing.{nothing, follow}
+use Rattle.exact.specs.laws.Hex.{all-joined}
 use Rattle.exact.proofs.put_limbs.Goals as goal
 
--- the digits of the limb after the k highest
-abbrev next : List ℕ → ℕ → List ℕ
-next l k = limb_of (ltb 0 (upper l k)) (after l k)
+module _ (l rest left : List ℕ) (x : ℕ) (e : l ≡ rest ++ drop (length rest) l) (h : rest ≡ left ++ (x ∷ [])) where
+  split : l ≡ left ++ (x ∷ drop (length rest) l)
+  split = e ∙ ap (λ (r : List ℕ). r ++ drop (length rest) l) h ∙ append_assoc left (x ∷ []) (drop (length rest) l)
 
-pub loop-k-init : goal.loop-k-init
-loop-k-init c =
+  next : drop (length left) l ≡ x ∷ drop (length rest) l
+  next = ap (drop (length left)) split ∙ drop-append_seam left (x ∷ drop (length rest) l)
+
+  whole-still : l ≡ left ++ drop (length left) l
+  whole-still = split ∙ ap (λ (r : List ℕ). left ++ r) (sym next)
+
+  here : get_or l (length left) 0 ≡ x
+  here = ap (λ (r : List ℕ). get_or r (length left) 0) split ∙ get_or-append_seam left x (drop (length rest) l) 0
+
+  one_limb_more : length l - length left ≡ length l - length rest + 1
+  one_limb_more =
+      let a : length rest ≡ length left + 1 = ap length h ∙ length-append left (x ∷ []) in
+      let b : length l ≡ length rest + length (drop (length rest) l) = ap length e ∙ length-append rest (drop (length rest) l) in
+      omega arith
+
+  digits-more : x < 0x1_0000_0000_0000_0000
+      → digits_of true 16 (16 * (length l - length left)) (val (drop (length left) l)) ≡ digits_of true 16 (16 * (length l - length rest)) (val (drop (length rest) l)) ++ digits_of true 16 16 x
+  unfolding val
+  digits-more small =
+      let k : 16 * (length l - length left) ≡ 16 * (length l - length rest) + 16 = omega (arith, one_limb_more) in
+      rw (k, next) (all-joined 16 (omega arith) (16 * (length l - length rest)) 16 (val (drop (length rest) l)) x small)
+
+-- no limb yet, and all of them
+module _ (l rest s : List ℕ) (a : ℕ) where
+  none-yet : rest ≡ l → (l ≡ rest ++ drop (length rest) l) × Placed s s a a (16 * (length l - length rest)) (digits_of true 16 (16 * (length l - length rest)) (val (drop (length rest) l)))
+  unfolding digits_of
+  none-yet e =
+      let z : 16 * (length l - length l) ≡ 0 = omega arith in
+      rw (e, z) (sym (ap (λ (r : List ℕ). l ++ r) (drop-length l) ∙ append-nil l), nothing s a 0)
+
+  all-placed : (t : List ℕ) (b : ℕ) → length rest ≡ 0 → Placed s t a b (16 * (length l - length rest)) (digits_of true 16 (16 * (length l - length rest)) (val (drop (length rest) l)))
+      → Placed s t a b (16 * length l) (digits_of true 16 (16 * length l) (val l))
+  all-placed t b z p =
+      let k : length l - 0 ≡ length l = omega arith in
+      rw (z, k) at p
+
+pub loop-limb-init : goal.loop-limb-init
+loop-limb-init c =
+    let a = c.args in
+    let e : c.into_iter-limb-iterator.result.iter.rest.now ≡ a.limbs.now = search rules in
+    let n = none-yet a.limbs.now c.into_iter-limb-iterator.result.iter.rest.now a.out.now a.from e in
+    record { whole = n.0; placed = n.1 }
+
+pub loop-limb-preserved : goal.loop-limb-preserved
+loop-limb-preserved c =
     let a = c.args in
     let l = a.limbs.now in
-    let e : highest l 0 ≡ [] = rw (upper-none l) (hex_none 0) in
-    (omega arith, rw (upper-none l) refl, none_yet (next l) (highest l) a.out.now a.from 16 e)
-
-pub put_limb-at-requires : goal.put_limb-at-requires
-put_limb-at-requires c =
-    let l = c.loop-k in
-    omega (arith, l.invariant.2.short, l.invariant.2.same)
-
-pub loop-k-preserved : goal.loop-k-preserved
-loop-k-preserved c =
-    let a = c.args in
-    let l = a.limbs.now in
-    let s = c.loop-k in
-    let p = c.put_limb-at.ensures in
-    let h : s.k < length l = c.loop-k-test.true in
-    let small = hex_more l s.k h (omega (arith, c.shared_slice_known-in-loop-k-1.given (length l - 1 - s.k))) in (
-      omega arith,
-      rw (s.invariant.1, add-one) (some_more l s.k h),
-      one_more_lem (next l) (highest l) a.out.now a.from 16 s.k small s.invariant.2 (rw s.invariant.1 at p.put) p.upper_bound (omega arith),
-    )
+    let s = c.loop-limb in
+    let rest = s.limb-iterator.iter.rest.now in
+    let left = c.next.new.self.iter.rest.now in
+    let x = c.in-Some.limb.now in
+    let digits = 16 * (length l - length rest) in
+    let h : rest ≡ left ++ (x ∷ []) = c.in-Some.ensures.steps in
+    let more : 16 * (length l - length left) ≡ digits + 16 = omega (arith, one_limb_more l rest left x s.invariant.whole h) in
+    let small : x < 0x1_0000_0000_0000_0000 = omega (arith, here l rest left x s.invariant.whole h, (c.type_inv.limbs (length left)).fits) in
+    record {
+      whole = whole-still l rest left x s.invariant.whole h;
+      placed = rw (digits-more l rest left x s.invariant.whole h small, more)
+          (follow a.out.now a.from digits 16 (digits_of true 16 digits (val (drop (length rest) l))) (digits_of true 16 16 x) (digits-length true 16 16 x) (omega arith) s.invariant.placed c.put_hex-at.ensures);
+    }
 
 pub returns : goal.returns
 returns c =
-    let l = c.loop-k in
-    let limbs = c.args.limbs.now in
-    let e : l.k ≡ length limbs = omega arith in
-    record { put = rw (e, upper-all limbs) at l.invariant.2.text; upper_bound = omega (arith, l.invariant.2.short) }
+    let a = c.args in
+    let s = c.loop-limb in
+    all-placed a.limbs.now s.limb-iterator.iter.rest.now a.out.now a.from s.out s.at c.in-None.ensures.steps.0 s.invariant.placed

@@ -1,20 +1,14 @@
--- The digits of the highest limbs stand in the buffer.
-use mathlib.Core.Path.{◌≡◌}
-use Prim.Native.Nat.{ℕ, ◌*◌, ◌-◌, ◌≤◌}
-use mathlib.Core.List.{List}
-use lib.ListN.{length}
-use lib.Dec.{ltb}
-use Rattle.exact.specs.Exact.{hex_of}
-use Rattle.text.specs.laws.Lines.{Stands}
-use Rattle.exact.specs.laws.Hex.{upper}
+-- The digits of the highest limbs stand in the buffer; the others are what is left of them.
+use Rattle.std.proofs.Common.{◌≡◌, ◌-◌, ◌*◌, ◌++◌, true, length, drop}
+use Rattle.total.specs.Total.{val}
+use Rattle.text.specs.Text.{digits_of}
+use Rattle.placing.specs.Placed.{Placed}
 use Rattle.exact.proofs.put_limbs.Given as goal
 
--- the digits of the k highest limbs
-abbrev pub highest : List ℕ → ℕ → List ℕ
-highest l k = hex_of (16 * k) (upper l k)
-
-abbrev pub invariant-loop-k : goal.invariant-loop-k
-invariant-loop-k l = (l.k ≤ length l.limbs) × (l.started ≡ ltb 0 (upper l.limbs l.k)) × Stands l.initial.out l.out l.from l.at 16 l.k (highest l.limbs l.k)
-
-abbrev pub decreases-loop-k : goal.decreases-loop-k
-decreases-loop-k l = length l.limbs - l.k
+abbrev pub invariant-loop-limb : goal.invariant-loop-limb
+invariant-loop-limb l = let rest = l.limb-iterator.iter.rest.now in
+    let digits = 16 * (length l.limbs - length rest) in
+    record {
+      whole : l.limbs ≡ rest ++ drop (length rest) l.limbs;
+      placed : Placed l.initial.out l.out l.from l.at digits (digits_of true 16 digits (val (drop (length rest) l.limbs)));
+    }

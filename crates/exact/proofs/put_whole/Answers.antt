@@ -1,50 +1,46 @@
--- Zero is one digit; any other number is its sign and its limbs.
-use mathlib.Core.Path.{◌≡◌, sym, ◌∙◌}
-use native.Mathlib.Omega.{arith}
-use mathlib.Core.List.{[], ◌∷◌, ◌++◌}
-use lib.ListN.{length}
+-- Zero is one digit; any other number is its sign, its highest limb's digits, and all digits of the limbs below.
+use Rattle.std.proofs.Common.{◌≡◌, [], ◌∷◌, ◌++◌, ◌+◌, ◌*◌, true, false, ℕ, List, length, take, get_or, ap, ◌∙◌, le-ltb, lt-ltb, arith, length-take-le, append_assoc}
 use Rattle.total.specs.Total.{val}
-use Rattle.text.specs.laws.Room.{has, has_not}
-use Rattle.text.specs.laws.Writing.{put_both, puts_all, puts_none}
-use Rattle.exact.specs.Exact.{hex_of, sign_of, signed_hex}
-use Rattle.exact.specs.laws.Hex.{signed, unsigned}
+use Rattle.text.specs.Text.{digits_of}
+use Rattle.text.specs.laws.Digits.{digits-length}
+use Rattle.text.specs.laws.Room.{has}
+use Rattle.text.specs.laws.Writing.{puts_all}
+use Rattle.placing.specs.laws.Placing.{join, follow}
+use Rattle.exact.specs.Exact.{sign_of, signed_hex}
+use Rattle.exact.specs.laws.Hex.{highest_first, some_highest, signed, unsigned}
 use Rattle.exact.proofs.put_whole.Goals as goal
 
-pub returns-then-lacks : goal.returns-then-lacks
-returns-then-lacks c =
-    let a = c.args in
-    puts_none a.out.now a.at 546 _ (has_not _ (length a.out.now) a.at 546 c.lacks.ensures c.if-lacks.true)
-
-pub put_sign-a-requires : goal.put_sign-a-requires
-put_sign-a-requires c =
-    let a = c.args in
-    let room = has _ (length a.out.now) a.at 546 c.lacks.ensures c.if-lacks.false in
-    omega arith
-
-pub put_limbs-b-requires : goal.put_limbs-b-requires
-put_limbs-b-requires c =
-    let a = c.args in
-    let room = has _ (length a.out.now) a.at 546 c.lacks.ensures c.if-lacks.false in
-    omega arith
-
-pub returns-then-some : goal.returns-then-some
-returns-then-some c =
+pub returns-in_default : goal.returns-in_default
+returns-in_default c =
     let a = c.args in
     let n = val a.limbs.now in
     let room = has _ (length a.out.now) a.at 546 c.lacks.ensures c.if-lacks.false in
-    let some = sym c.some.ensures ∙ c.if-some.true in
-    let all : length a.limbs.now ≡ 34 = omega arith in
-    let p = c.put_sign-a.ensures in
-    let q = c.put_limbs-b.ensures in
-    let r = c.put_bytes.ensures.put (omega (arith, p.upper_bound, q.upper_bound)) in
-    let number = put_both a.out.now a.at (sign_of a.negative) (hex_of 544 n) (omega (arith, p.upper_bound, q.upper_bound)) p.put (rw all at q.put) in
-    puts_all a.out.now a.at 546 (signed_hex a.negative n ++ (a.after ∷ [])) room
-    (put_both a.out.now a.at (signed_hex a.negative n) (a.after ∷ []) (omega (arith, p.upper_bound, q.upper_bound, r.next)) (rw (signed a.negative n some) at number) r)
+    let none = le-ltb 0 n (omega (arith, c.in_default.ensures)) in
+    puts_all a.out.now a.at 546 (signed_hex a.negative n ++ (a.after ∷ [])) room (rw (← (unsigned a.negative n none)) (c.put_bytes.ensures.put (omega arith)))
+
+pub put_limbs-rest-requires : goal.put_limbs-rest-requires
+put_limbs-rest-requires c =
+    let a = c.args in
+    let l = a.limbs.now in
+    let t = c.in-Some.top in
+    let room = has _ (length a.out.now) a.at 546 c.lacks.ensures c.if-lacks.false in
+    let p = follow a.out.now a.at 1 16 _ _ (digits-length false 16 16 (get_or l t 0)) (omega arith) c.put_sign-sign.ensures c.put_hex-first.ensures in
+    omega (arith, p.short, p.same, c.in-Some.ensures.0, length-take-le t l (omega (arith, c.in-Some.ensures.0)))
 
 pub returns : goal.returns
 returns c =
     let a = c.args in
+    let l = a.limbs.now in
+    let n = val l in
+    let t = c.in-Some.top in
+    let found = c.in-Some.ensures in
     let room = has _ (length a.out.now) a.at 546 c.lacks.ensures c.if-lacks.false in
-    let none = sym c.some.ensures ∙ c.if-some.false in
-    let p = c.put_bytes-2.ensures.put (omega arith) in
-    puts_all a.out.now a.at 546 (signed_hex a.negative (val a.limbs.now) ++ (a.after ∷ [])) room (rw (← (unsigned a.negative (val a.limbs.now) none)) p)
+    let some = lt-ltb 0 n (some_highest l t found.0 found.1 found.2) in
+    let below : length (take t l) ≡ t = length-take-le t l (omega (arith, found.0)) in
+    let p = follow a.out.now a.at 1 16 (sign_of a.negative) (digits_of false 16 16 (get_or l t 0)) (digits-length false 16 16 (get_or l t 0)) (omega arith) c.put_sign-sign.ensures c.put_hex-first.ensures in
+    let q = join a.out.now a.at 17 (16 * t) (sign_of a.negative ++ digits_of false 16 16 (get_or l t 0)) (digits_of true 16 (16 * t) (val (take t l))) (omega (arith, found.0)) p (rw below at c.put_limbs-rest.ensures) in
+    let r = follow a.out.now a.at (17 + 16 * t) 1 _ (a.after ∷ []) (omega arith) (omega (arith, found.0)) q c.put_bytes-2.ensures in
+    let digits = highest_first l t found.0 (omega arith) c.fits-limbs found.1 found.2 in
+    let text : sign_of a.negative ++ digits_of false 16 16 (get_or l t 0) ++ digits_of true 16 (16 * t) (val (take t l)) ≡ signed_hex a.negative n =
+    append_assoc (sign_of a.negative) (digits_of false 16 16 (get_or l t 0)) (digits_of true 16 (16 * t) (val (take t l))) ∙ ap (λ (x : List ℕ). sign_of a.negative ++ x) digits ∙ signed a.negative n some in
+    puts_all a.out.now a.at 546 (signed_hex a.negative n ++ (a.after ∷ [])) room (rw text at r.put)

@@ -1,12 +1,14 @@
 -- A number that takes many limbs: its digits are those of what stands above its lowest limb, then all 16 of that limb. Assumes nothing.
-use Rattle.std.specs.Prelude.{◌≡◌, ℕ, zero, suc, ◌+◌, ◌*◌, ◌-◌, ◌/◌, ◌%◌, ◌^◌, ◌≤◌, ◌<◌, Bool, true, false, cond, ◌&&◌, ◌||◌, List, [], ◌∷◌, ◌++◌, drop, get_or, ltb}
+use Rattle.std.specs.Prelude.{◌≡◌, ℕ, zero, suc, ◌+◌, ◌*◌, ◌-◌, ◌/◌, ◌%◌, ◌^◌, ◌≤◌, ◌<◌, Bool, true, false, cond, ◌&&◌, ◌||◌, List, [], ◌∷◌, ◌++◌, take, drop, get_or, ltb}
 use Rattle.std.proofs.Math.Path.{refl}
-use Rattle.std.proofs.Common.{sym, ap, ◌∙◌, pow-suc, mul-pos, mul-suc, add-suc, add-zero, mul_assoc, le-mul_of_pos_right, div-lt_iff_lt-mul, add-one, append_assoc, append-nil, length-append, drop-cons, lt-ltb, le-ltb, ltb-true, ltb-false}
+use Rattle.std.proofs.Common.{sym, ap, ◌∙◌, pow-suc, mul-pos, mul-suc, add-suc, add-zero, mul_assoc, le-mul_of_pos_right, div-lt_iff_lt-mul, add-one, append_assoc, append-nil, length-append, drop-cons, lt-ltb, le-ltb, ltb-true, ltb-false, subst, pow-add}
 use Rattle.std.proofs.Math.Nat.{pow-succ', pow-zero, one-le-pow, add-mul-div_left, add-mul-mod_self_left}
 use native.Mathlib.Omega.{arith}
 use Rattle.std.proofs.Math.ListN.{length}
 use Rattle.std.proofs.Math.Seq.{drop-length}
 use Rattle.total.specs.Total.{val}
+use Rattle.total.specs.Carry.{W}
+use Rattle.total.specs.laws.Limbs.{Fit, W-pos, val_next, fit_first}
 use Rattle.text.specs.Text.{glyph_of, digits_of}
 use Rattle.text.specs.laws.Digits.{enough, digits-length}
 use Rattle.exact.specs.Exact.{hex_of, limb_of, sign_of, signed_hex}
@@ -25,7 +27,7 @@ unfolding digits_of
 no_digit all base n = refl
 
 -- the digits of a + base ^ j · v, where v is not zero and a has j digits
-joined : (base : ℕ) → 0 < base → (k j v a : ℕ) → 0 < v → a < base ^ j
+pub joined : (base : ℕ) → 0 < base → (k j v a : ℕ) → 0 < v → a < base ^ j
     → digits_of false base (k + j) (a + base ^ j * v) ≡ digits_of false base k v ++ digits_of true base j a
 joined base some k zero v a pos less =
     let e : base ^ 0 ≡ 1 = pow-zero base in
@@ -45,6 +47,26 @@ joined base some k (suc j) v a pos less =
       joined base some k j v (a / base) pos less',
       one_of_all base j a,
     ) (append_assoc (digits_of false base k v) (digits_of true base j (a / base)) (glyph_of (a % base) ∷ []))
+
+-- and all digits of it, whether it is zero or not
+pub all-joined : (base : ℕ) → 0 < base → (k j v a : ℕ) → a < base ^ j → digits_of true base (k + j) (a + base ^ j * v) ≡ digits_of true base k v ++ digits_of true base j a
+all-joined base some k zero v a less =
+    let e : base ^ 0 ≡ 1 = pow-zero base in
+    let f : a + base ^ 0 * v ≡ v = rw e (omega (arith, rw e at less)) in
+    rw (f, add-zero k, no_digit true base a) (sym (append-nil (digits_of true base k v)))
+all-joined base some k (suc j) v a less =
+    let m : ℕ = base ^ j * v in
+    let e : base ^ suc j * v ≡ base * m = ap (λ (x : ℕ). x * v) (pow-succ' base j) ∙ mul_assoc base (base ^ j) v in
+    let less' : a / base < base ^ j = (div-lt_iff_lt-mul {k = base} some).1 (rw (← pow-suc base j) less) in
+    rw (
+      e,
+      add-suc k j,
+      one_of_all base (k + j) (a + base * m),
+      add-mul-div_left a m some,
+      add-mul-mod_self_left a base m,
+      all-joined base some k j v (a / base) less',
+      one_of_all base j a,
+    ) (append_assoc (digits_of true base k v) (digits_of true base j (a / base)) (glyph_of (a % base) ∷ []))
 
 -- ---- a limb below what stands above it
 -- whether a number is not zero
@@ -121,6 +143,35 @@ module _ (l : List ℕ) where
 
   pub upper-all : upper l (length l) ≡ val l
   upper-all = let e : length l - length l ≡ 0 = omega arith in rw e
+
+-- ---- the highest limb that is not zero, and the limbs below it
+W-hex : (n : ℕ) → W n ≡ 16 ^ (16 * n)
+unfolding W
+W-hex zero = refl
+W-hex (suc n) =
+    let e : 16 * suc n ≡ 16 + 16 * n = omega arith in
+    rw (W-hex n, e) (sym (pow-add 16 16 (16 * n)))
+
+pub some_highest : (l : List ℕ) (t : ℕ) → t < length l → val (take (t + 1) l) ≡ val l → 0 < get_or l t 0 → 0 < val l
+some_highest l t h e pos = omega (arith, e, val_next l t h, mul-pos (W-pos t) pos)
+
+pub highest_first : (l : List ℕ) (t : ℕ) → t < length l → length l ≤ 34 → Fit l → val (take (t + 1) l) ≡ val l → 0 < get_or l t 0
+    → digits_of false 16 16 (get_or l t 0) ++ digits_of true 16 (16 * t) (val (take t l)) ≡ hex_of 544 (val l)
+unfolding hex_of
+highest_first l t h most f e pos =
+    let x = get_or l t 0 in
+    let a = val (take t l) in
+    let v : val l ≡ a + 16 ^ (16 * t) * x = sym e ∙ val_next l t h ∙ ap (λ (w : ℕ). a + w * x) (W-hex t) in
+    let below : a < 16 ^ (16 * t) = subst (λ (w : ℕ). a < w) (W-hex t) (fit_first l t (omega arith) f) in
+    let k : 16 * (t + 1) ≡ suc (15 + 16 * t) = omega arith in
+    let whole : val l < 16 ^ suc (15 + 16 * t) = subst (λ (n : ℕ). val l < 16 ^ n) k (subst (λ (w : ℕ). val l < w) (W-hex (t + 1)) (subst (λ (n : ℕ). n < W (t + 1)) e (fit_first l (t + 1) (omega arith) f))) in
+    let some : 0 < val l = some_highest l t h e pos in
+    let j : suc (15 + 16 * t) ≡ 16 + 16 * t = omega arith in
+    simp (lt-ltb 0 (val l) some)
+    (sym (joined 16 (omega arith) 16 (16 * t) x a pos below)
+    ∙ ap (digits_of false 16 (16 + 16 * t)) (sym v)
+    ∙ ap (λ (n : ℕ). digits_of false 16 n (val l)) (sym j)
+    ∙ sym (enough 16 (omega arith) 543 (15 + 16 * t) (val l) (omega arith) whole))
 
 -- ---- zero, and the sign
 pub hex_none : (k : ℕ) → hex_of k 0 ≡ []

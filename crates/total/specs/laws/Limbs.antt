@@ -1,6 +1,6 @@
 -- Limbs and the number that they stand for: each has one of the other, modulo N. Assumes nothing.
-use Rattle.std.specs.Prelude.{◌≡◌, ℕ, zero, suc, ◌+◌, ◌*◌, ◌/◌, ◌%◌, ◌^◌, ◌<◌, List, [], ◌∷◌, length, take, slice_index, slice_set, refl}
-use Rattle.std.proofs.Common.{ap, ◌∙◌, sym, subst, mod-lt, mod-eq_of_lt, zero-add, mul_comm, mul-add, mul_assoc, le_of_suc-le-suc, not-suc-le-zero, add-one, arith, pow_pos, pow-add, lit<, length-set, get_or-set_same}
+use Rattle.std.specs.Prelude.{◌≡◌, ℕ, zero, suc, ◌+◌, ◌*◌, ◌/◌, ◌%◌, ◌^◌, ◌<◌, ◌≤◌, List, [], ◌∷◌, length, take, slice_index, slice_set, refl}
+use Rattle.std.proofs.Common.{ap, ◌∙◌, sym, subst, mod-lt, mod-eq_of_lt, zero-add, mul_comm, mul-add, mul_assoc, le_of_suc-le-suc, not-suc-le-zero, add-one, arith, pow_pos, pow-add, lit<, length-set, length-take-le, get_or-set_same}
 use Rattle.std.proofs.Math.Nat.{add-mul-mod_self_left, add-mul-div_left, div-eq_of_lt, mod-one}
 use Rattle.std.proofs.lemmas.Nat.{mod-pow-add}
 use Rattle.std.proofs.lemmas.List.{take-set-le}
@@ -107,3 +107,13 @@ val_next l i h = rw add-one (one_more_lem l i h)
 pub val-set_next : (l : List ℕ) (i z : ℕ) → i < length l → val (take (i + 1) (slice_set l i z)) ≡ val (take i l) + W i * z
 val-set_next l i z h =
     rw (add-one, one_more_lem (slice_set l i z) i (omega (arith, length-set l i z)), take-set-le i l i z (omega arith), get_or-set_same l i z 0 h)
+
+-- ---- the first limbs alone: they fit, and so they are below the next weight
+pub fit_take : (l : List ℕ) (n : ℕ) → Fit l → Fit (take n l)
+fit_take l zero f i = lit< tt
+fit_take [] (suc n) f i = lit< tt
+fit_take (x ∷ xs) (suc n) f zero = f zero
+fit_take (x ∷ xs) (suc n) f (suc i) = fit_take xs n (λ k. f (suc k)) i
+
+pub fit_first : (l : List ℕ) (n : ℕ) → n ≤ length l → Fit l → val (take n l) < W n
+fit_first l n h f = subst (λ (k : ℕ). val (take n l) < W k) (length-take-le n l h) (val-below (take n l) (fit_take l n f))

@@ -7,5 +7,5 @@ use Rattle.total.proofs.Total.rounded.Goals as goal
 
 pub returns : goal.returns
 unfolding signed_of
-returns c = let s = c.size-signed in
+returns c = let s = c.size-negative in
     c.round_size.ensures ∙ (λ i. round binary64 (s.ensures.0 i).negative (s.ensures.1 i) (2 ^ 1074)) ∙ round-signed (val c.args.self.limbs)

@@ -1,27 +1,14 @@
--- The invariant: the limbs above are all zero.
-use Rattle.std.proofs.Common.{◌≡◌, ℕ, ◌+◌, ◌-◌, ◌<◌, length, take, sym, ap, ◌∙◌, lt_irrefl, arith, take_all}
+-- The limbs above the place that was found are zero; where none was found, all are.
+use Rattle.std.proofs.Common.{◌≡◌, ℕ, ◌+◌, ◌<◌, Option, None, Some, List, length, get_or, take, MatchOption, rules}
 use Rattle.total.specs.Total.{val}
-use Rattle.total.proofs.FirstLimbs.{zero_next}
+use Rattle.total.proofs.FirstLimbs.{all-zero, zeros_above}
 use Rattle.total.proofs.rounding.highest.Goals as goal
 
-pub loop-i-init : goal.loop-i-init
-loop-i-init c = let g = c.well_formed in (omega arith, ap val (take_all 34 c.args.limbs (omega arith)))
-
-pub returns-then-limbs-i-gt0 : goal.returns-then-limbs-i-gt0
-returns-then-limbs-i-gt0 c = let s = c.loop-i in (s.invariant.0, s.invariant.1, λ h. c.if-limbs-i-gt0.true)
-
-pub loop-i-preserved : goal.loop-i-preserved
-loop-i-preserved c =
-    let l = c.args.limbs in
-    let i = c.loop-i.i in
-    let g = c.well_formed in
-    let t = c.loop-i-test.true in
-    let h : i < length l = omega arith in
-    let e : i - 1 + 1 ≡ i = omega arith in
-    (omega arith, ap (λ (x : ℕ). val (take x l)) e ∙ sym (zero_next l i h c.if-limbs-i-gt0.false) ∙ c.loop-i.invariant.1)
+value : (l : List ℕ) (r : Option ℕ)
+    → MatchOption r ((k : ℕ) → k < length l → get_or l k 0 ≡ 0) (λ at. (at < length l) × (0 < get_or l at 0) × ((k : ℕ) → at < k → k < length l → get_or l k 0 ≡ 0))
+    → MatchOption r (val l ≡ 0) (λ at. (at < length l) × (val (take (at + 1) l) ≡ val l) × (0 < get_or l at 0))
+value l None h = all-zero l h
+value l (Some at) h = (h.0, zeros_above l at h.2, h.1)
 
 pub returns : goal.returns
-returns c =
-    let s = c.loop-i in
-    let e : 0 ≡ s.i = omega arith in
-    (omega arith, ap (λ (x : ℕ). val (take (x + 1) c.args.limbs)) e ∙ s.invariant.1, λ h. absurd (lt_irrefl 0 h))
+returns c = value c.args.limbs.now c.rposition.result (search rules)

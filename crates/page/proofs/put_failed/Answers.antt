@@ -1,7 +1,8 @@
 -- The words are those of the definition.
+use Rattle.std.proofs.Common.{arith}
 use Rattle.page.specs.Page.{failed_line}
 use Rattle.page.proofs.put_failed.Goals as goal
 
 pub returns : goal.returns
 unfolding failed_line
-returns c = c.put_note.ensures
+returns c = let p = c.put_note.ensures in record { put = p.put; upper_bound = omega (arith, p.short, p.same) }

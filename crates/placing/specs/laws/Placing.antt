@@ -28,6 +28,17 @@ follow s a m n x y {t} {u} {b} {c} h room p q =
     let pl = p.same in
     join s a m n x y room p (piece t b n y h (omega arith) q)
 
+-- the same of a piece that asks for more room than it takes
+pub within : (s : List ℕ) (a room n : ℕ) (x : List ℕ) {t : List ℕ} {b : ℕ} → length x ≤ n → n ≤ room → a + room ≤ length s → Puts s t a b room x → Placed s t a b n x
+within s a room n x h k l p = let q = placed s a room n x h k l p in record { put = q.0; short = q.1; same = q.2 }
+
+pub follow_within : (s : List ℕ) (a m room n : ℕ) (x y : List ℕ) {t u : List ℕ} {b c : ℕ} → length y ≤ n → n ≤ room → a + m + room ≤ length s
+    → Placed s t a b m x → Puts t u b c room y → Placed s u a c (m + n) (x ++ y)
+follow_within s a m room n x y {t} {u} {b} {c} h k l p q =
+    let ps = p.short in
+    let pl = p.same in
+    join s a m n x y (omega arith) p (within t b room n y h k (omega arith) q)
+
 -- a larger bound serves
 pub looser : (s : List ℕ) (a m n : ℕ) (x : List ℕ) {t : List ℕ} {b : ℕ} → m ≤ n → Placed s t a b m x → Placed s t a b n x
 looser s a m n x {t} {b} h p = let ps = p.short in record { put = p.put; short = omega arith; same = p.same }

@@ -1,8 +1,6 @@
 -- A carry, or a borrow, goes up the limbs: what is left to carry is always in balance with what was asked. Assumes nothing.
-use Rattle.std.proofs.Common.{◌≡◌, ℕ, zero, suc, ◌+◌, ◌-◌, ◌*◌, ◌/◌, ◌%◌, ◌^◌, ◌<◌, ◌≤◌, Bool, true, false, List, [], ◌∷◌, length, get_or, set, sym, refl, ap, ◌∙◌, subst, le_trans, le_of_eq, le_of_suc-le-suc, not-suc-le-zero, add-zero, le_of_lt, mod-lt, mul_assoc, mul_comm, le_antisymm, mul-le-mul_left, mul-zero, mul-add, arith, pow_pos, pow_mono, pow-add, shl_lt, shr-shr, shr_lt}
-use native.Mathlib.Nat.{mod-add-mod, mod-add-div, mul-mod_left, mul-div-mul_right}
-use lib.Pow.{shl-shr, mod-pow-add}
-use lib.Arith.{digits_lt}
+use Rattle.std.proofs.Common.{◌≡◌, ℕ, zero, suc, ◌+◌, ◌-◌, ◌*◌, ◌/◌, ◌%◌, ◌^◌, ◌<◌, ◌≤◌, Bool, true, false, List, [], ◌∷◌, length, get_or, set, sym, refl, ap, ◌∙◌, subst, le_trans, le_of_eq, le_of_suc-le-suc, not-suc-le-zero, le_of_lt, lt_of_lt_of_le, mul_assoc, mul_comm, le_antisymm, mul-le-mul_left, mul-zero, mul-add, arith, pow_pos, pow_mono, pow-add, shl_lt, shr-shr, shr_lt}
+use native.Mathlib.Nat.{mod-add-mod, mod-add-div, mul-div-mul_right}
 use Rattle.total.specs.Total.{val, limbs_of, complement, N}
 use Rattle.total.specs.Carry.{W, Balance}
 use Rattle.total.specs.laws.Limbs.{Fit, W-pow, W-next, W-34, limbs_val, val_limbs, same-mod, same_limbs}
@@ -76,40 +74,36 @@ pub three : (away : Bool) (t i j k n : ℕ) (l m r : List ℕ) → i + j + k ≡
     → l ≡ limbs_of (t + complement away i) → m ≡ limbs_of (val l + complement away j) → r ≡ limbs_of (val m + complement away k) → r ≡ limbs_of (t + complement away n)
 three away t i j k n l m r e h a b c = both away t (i + j) k n m r e h (both away t i j (i + j) l m refl (omega arith) a b) c
 
--- ---- the words: a product of two limbs, shifted by less than a limb
--- what a shift leaves above its limb
-above : (d by : ℕ) → by < 64 → d / 2 / 2 ^ (63 - by) ≡ d * 2 ^ by / 2 ^ 64
-above d by h = shr-shr d 1 (63 - by) ∙ up (63 - by) (omega arith)
+-- ---- the words: a product of 128 digits, shifted by less than a limb
+-- what a shift leaves above the digits
+above : (p by : ℕ) → by < 64 → p / 2 / 2 ^ (127 - by) ≡ p * 2 ^ by / 2 ^ 128
+above p by h = shr-shr p 1 (127 - by) ∙ up (127 - by) (omega arith)
   where
-    up : (rest : ℕ) → 1 + rest + by ≡ 64 → d / 2 ^ (1 + rest) ≡ d * 2 ^ by / 2 ^ 64
-    up rest e = sym (ap (λ (z : ℕ). d * 2 ^ by / z) (ap (λ (z : ℕ). 2 ^ z) (sym e) ∙ pow-add 2 (1 + rest) by) ∙ mul-div-mul_right d (2 ^ (1 + rest)) (pow_pos by))
+    up : (rest : ℕ) → 1 + rest + by ≡ 128 → p / 2 ^ (1 + rest) ≡ p * 2 ^ by / 2 ^ 128
+    up rest e = sym (ap (λ (z : ℕ). p * 2 ^ by / z) (ap (λ (z : ℕ). 2 ^ z) (sym e) ∙ pow-add 2 (1 + rest) by) ∙ mul-div-mul_right p (2 ^ (1 + rest)) (pow_pos by))
 
--- the limb and what is above it
-shifted : (d by : ℕ) → by < 64 → d * 2 ^ by % 2 ^ 64 + 2 ^ 64 * (d / 2 / 2 ^ (63 - by)) ≡ d * 2 ^ by
-shifted d by h = rw (above d by h) (mod-add-div (d * 2 ^ by) (2 ^ 64))
-
-pub words_are : (n l h by : ℕ) → by < 64 → h * 2 ^ 64 + l ≡ n
-    → val (l * 2 ^ by % 2 ^ 64 ∷ (h * 2 ^ by % 2 ^ 64 + l / 2 / 2 ^ (63 - by)) ∷ h / 2 / 2 ^ (63 - by) ∷ []) ≡ n * 2 ^ by
+pub words_are : (p by : ℕ) → by < 64 → val (p * 2 ^ by % 2 ^ 128 % 2 ^ 64 ∷ p * 2 ^ by % 2 ^ 128 / 2 ^ 64 ∷ p / 2 / 2 ^ (127 - by) ∷ []) ≡ p * 2 ^ by
 unfolding val
-words_are n l h by b e = join 0x1_0000_0000_0000_0000 _ _ _ _ l h (2 ^ by) (shifted l by b) (shifted h by b) ∙ ap (λ (z : ℕ). z * 2 ^ by) e
+words_are p by h = rw (above p by h)
+    (join 0x1_0000_0000_0000_0000 _ _ (p * 2 ^ by / 2 ^ 128) (p * 2 ^ by % 2 ^ 128) (p * 2 ^ by) (mod-add-div (p * 2 ^ by % 2 ^ 128) (2 ^ 64)) (mod-add-div (p * 2 ^ by) (2 ^ 128)))
   where
-    join : (w l0 l1 h0 h1 l h p : ℕ) → l0 + w * l1 ≡ l * p → h0 + w * h1 ≡ h * p → l0 + w * (h0 + l1 + w * (h1 + w * 0)) ≡ (h * w + l) * p
-    join w l0 l1 h0 h1 l h p e f = let m = simp mul-add at (ap (λ (n : ℕ). w * n) f) in omega (arith, m)
+    join : (w low middle high x n : ℕ) → low + w * middle ≡ x → x + w * w * high ≡ n → low + w * (middle + w * (high + w * 0)) ≡ n
+    join w low middle high x n e f = omega arith
 
--- the middle word is two that do not overlap: below the shift and from it on
-pub words_fit : (l h by : ℕ) → by < 64 → l < 2 ^ 64 → h * 2 ^ by % 2 ^ 64 + l / 2 / 2 ^ (63 - by) < 2 ^ 64
-words_fit l h by b f =
-    let rest = 64 - by in
-    let whole : 64 ≡ rest + by = omega arith in
-    let top : h * 2 ^ by % 2 ^ (rest + by) ≡ h % 2 ^ rest * 2 ^ by = mod-pow-add (h * 2 ^ by) rest by ∙ (λ i. (shl-shr h by i % 2 ^ rest) * 2 ^ by + mul-mod_left h (2 ^ by) i) ∙ add-zero (h % 2 ^ rest * 2 ^ by) in
-    let low : l / 2 / 2 ^ (63 - by) < 2 ^ by = rw (shr-shr l 1 (63 - by)) (shr_lt by (1 + (63 - by)) (subst (λ (z : ℕ). l < 2 ^ z) (let g : 64 ≡ by + (1 + (63 - by)) = omega arith in g) f)) in
-    subst (λ (z : ℕ). h * 2 ^ by % 2 ^ z + l / 2 / 2 ^ (63 - by) < 2 ^ z) (sym whole)
-    (rw (top, pow-add 2 rest by) (digits_lt (mod-lt h (pow_pos rest)) low))
+-- the third word is below the shift
+pub third_fits : (p by : ℕ) → by < 64 → p < 2 ^ 128 → p / 2 / 2 ^ (127 - by) < 2 ^ 64
+third_fits p by h f =
+    rw (shr-shr p 1 (127 - by))
+    (lt_of_lt_of_le (shr_lt by (1 + (127 - by)) (subst (λ (z : ℕ). p < 2 ^ z) (let g : 128 ≡ by + (1 + (127 - by)) = omega arith in g) f)) (pow_mono (le_of_lt h)))
 
 -- ---- and at their place
-pub placed : (at by e k d x y z : ℕ) → 64 * at + by ≡ e → val (x ∷ y ∷ z ∷ []) ≡ k * d * 2 ^ by → W at * x + W (at + 1) * y + W (at + 2) * z ≡ k * (d * 2 ^ e)
+pub placed : (at by e k d : ℕ) (w : List ℕ) → length w ≡ 3 → 64 * at + by ≡ e → val w ≡ k * d * 2 ^ by → W at * get_or w 0 0 + W (at + 1) * get_or w 1 0 + W (at + 2) * get_or w 2 0 ≡ k * (d * 2 ^ e)
 unfolding val
-placed at by e k d x y z p v =
+placed at by e k d [] n p v = absurd (omega arith)
+placed at by e k d (x ∷ []) n p v = absurd (omega arith)
+placed at by e k d (x ∷ y ∷ []) n p v = absurd (omega arith)
+placed at by e k d (x ∷ y ∷ z ∷ (u ∷ us)) n p v = absurd (omega arith)
+placed at by e k d (x ∷ y ∷ z ∷ []) n p v =
     weigh 0x1_0000_0000_0000_0000 (W at) (W (at + 1)) (W (at + 2)) x y z (k * d * 2 ^ by) (W-next at) (ap W (let g : at + 2 ≡ at + 1 + 1 = omega arith in g) ∙ W-next (at + 1)) v
     ∙ raise (W at) k d (2 ^ by) (2 ^ e) (ap (λ (w : ℕ). w * 2 ^ by) (W-pow at) ∙ sym (pow-add 2 (64 * at) by) ∙ ap (λ (n : ℕ). 2 ^ n) p)
   where

@@ -31,27 +31,23 @@ impl Total {
     }
 
     // x added so many times. NaN or an infinity leaves the total as it stands.
-    pub fn add(self, x: f64, times: u16) -> Total
+    pub fn add(mut self, x: f64, times: u16) -> Total
         ensures { (val result.limbs ≡ add_of (val self.limbs) times x) × (result.limbs ≡ limbs_of (add_of (val self.limbs) times x)) }
     {
-        let Some(p) = bits::parts(x) else {
-            return self;
-        };
-        let mut held = self.limbs;
-        limbs::moved(&mut held, p.digits, times, p.exponent, p.negative);
-        Total { limbs: held }
+        if let Some(p) = bits::parts(x) {
+            limbs::moved(&mut self.limbs, p, times, p.negative);
+        }
+        self
     }
 
     // x taken away so many times, which undoes adding it.
-    pub fn take(self, x: f64, times: u16) -> Total
+    pub fn take(mut self, x: f64, times: u16) -> Total
         ensures { (val result.limbs ≡ take_of (val self.limbs) times x) × (result.limbs ≡ limbs_of (take_of (val self.limbs) times x)) }
     {
-        let Some(p) = bits::parts(x) else {
-            return self;
-        };
-        let mut held = self.limbs;
-        limbs::moved(&mut held, p.digits, times, p.exponent, !p.negative);
-        Total { limbs: held }
+        if let Some(p) = bits::parts(x) {
+            limbs::moved(&mut self.limbs, p, times, !p.negative);
+        }
+        self
     }
 
     // The limbs, handed back.

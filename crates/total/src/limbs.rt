@@ -10,13 +10,7 @@ ghost use Rattle.total.specs.Total.{val, limbs_of, complement};
 ghost use Rattle.std.specs.Int.{from_bool};
 ghost use Rattle.total.specs.Carry.{Balance, W};
 
-// Three limbs, least first.
-#[derive(Clone, Copy)]
-pub struct Words {
-    pub low: u64,
-    pub middle: u64,
-    pub high: u64,
-}
+use bits::Parts;
 
 // One limb with a word added, or taken away, and whether that carries 1 into the next or borrows it from there.
 fn step(limb: u64, word: u64, away: bool) -> (u64, bool)
@@ -46,29 +40,28 @@ pub(crate) fn ripple(limbs: &mut [u64], at: usize, word: u64, away: bool)
     }
 }
 
-// Digits times over, shifted by less than a limb.
-fn spread(digits: u64, times: u16, by: u64) -> Words
+// Digits times over, shifted by less than a limb: three words, least first.
+fn spread(digits: u64, times: u16, by: u64) -> [u64; 3]
     requires { by < 64 }
-    ensures { val (result.low ∷ result.middle ∷ result.high ∷ []) ≡ times * digits * 2 ^ by }
+    ensures { val result ≡ times * digits * 2 ^ by }
 {
     let product = bits::product(digits, times as u64);
-    let low = (product % (1 << 64)) as u64;
-    let high = (product >> 64) as u64;
-    Words {
-        low: low << by,
-        middle: (high << by) + ((low >> 1) >> (63 - by)),
-        high: (high >> 1) >> (63 - by),
-    }
+    let low = product << by;
+    [
+        (low % (1 << 64)) as u64,
+        (low >> 64) as u64,
+        ((product >> 1) >> (127 - by)) as u64,
+    ]
 }
 
-// digits·2^exponent added, or taken away, so many times.
-pub(crate) fn moved(limbs: &mut [u64], digits: u64, times: u16, exponent: u64, away: bool)
-    requires { (length limbs.old ≡ 34) × (digits < 2 ^ 53) × (exponent ≤ 2045) }
-    ensures { limbs.new ≡ limbs_of (val limbs.old + complement away (times * (digits * 2 ^ exponent))) }
+// The parts of a value added, or taken away, so many times.
+pub(crate) fn moved(limbs: &mut [u64], parts: Parts, times: u16, away: bool)
+    requires { length limbs.old ≡ 34 }
+    ensures { limbs.new ≡ limbs_of (val limbs.old + complement away (times * (parts.digits * 2 ^ parts.exponent))) }
 {
-    let at = (exponent / 64) as usize;
-    let words = spread(digits, times, exponent % 64);
-    ripple(limbs, at, words.low, away);
-    ripple(limbs, at + 1, words.middle, away);
-    ripple(limbs, at + 2, words.high, away);
+    let at = (parts.exponent / 64) as usize;
+    let [low, middle, high] = spread(parts.digits, times, parts.exponent % 64);
+    ripple(limbs, at, low, away);
+    ripple(limbs, at + 1, middle, away);
+    ripple(limbs, at + 2, high, away);
 }

@@ -8,8 +8,8 @@ use Rattle.total.proofs.Total.add.Goals as goal
 pub returns-in_default : goal.returns-in_default
 returns-in_default c = let a = c.args in unadded a.self.limbs a.times a.x (search rules) (λ i. (let z : Fits w64 (get_or c.args.self.limbs i 0) = search rules in z).fits) c.in_default.ensures
 
-pub returns : goal.returns
-returns c =
+pub returns-in-Some : goal.returns-in-Some
+returns-in-Some c =
     let p = c.in-Some.p in
     let a = c.args in
     let t = val a.self.limbs in

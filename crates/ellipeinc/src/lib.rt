@@ -2,10 +2,11 @@
 // Domain: m sin²φ < 1; m ≤ 1 where φ reaches beyond a quarter period. Steps are 01's, with 02's [7]; order of operations: ellipeinc.rs.
 #![tactic(auto)]
 
-ghost use Rattle.std.specs.Prelude.{◌≤◌, ◌≡◌};
+ghost use Rattle.std.specs.Prelude.{◌≡◌, ◌≤◌, ◌+◌, ◌&&◌};
+ghost use Rattle.whole.specs.Whole.{magnitude_of};
 ghost use Rattle.ellipeinc.specs.Ellipeinc.{sign_of, itself_of, far_of, line_of, own_of, two_terms_from, two_terms_of, trusted_terms_of, below_of, above_of, recipe_of, with_periods_of, by_recipe_of, reduced_of, on_size_of, counted_of};
 
-use answer::{Amplitude, Answer, Counted, Parameter, Refusal, Term, handed, infinity, unasked};
+use answer::{Amplitude, Answer, Counted, Parameter, Refusal, Term, handed, unasked};
 use carlson::{Outcome, trusted};
 use incomplete::{FAR_OUT, Fold, PI, ROOT_OF_SCALE, SCALE, folded, large, on_circle, sine};
 use legendre::complete_e;
@@ -14,37 +15,13 @@ use rd::with_rf;
 // 2^12
 const CANCELLING: f64 = 4096.0;
 
-fn sign(phi: f64) -> f64
-    ensures { result ≡ sign_of phi }
-{
-    if phi < 0.0 { -1.0 } else { 1.0 }
-}
-
 fn itself(phi: f64) -> Result<Answer, Refusal>
     ensures { result ≡ itself_of phi }
 {
-    if phi != phi {
+    if phi.is_nan() {
         return Err(Refusal::NotANumber);
     }
     handed(phi)
-}
-
-fn far(sign: f64, size: f64, m: f64) -> Result<Answer, Refusal>
-    ensures { result ≡ far_of sign size m }
-{
-    if m > 1.0 {
-        return Err(Refusal::AboveOne);
-    }
-    let e = complete_e(m);
-    handed(sign * (size * (2.0 * e / PI)))
-}
-
-fn line(sign: f64, size: f64) -> Result<Answer, Refusal>
-    ensures { result ≡ line_of sign size }
-{
-    let mm = whole::round(size / PI);
-    let s = sine(size - mm * PI);
-    handed(sign * (2.0 * mm + s))
 }
 
 // The file's `m.is_finite()` changes nothing: an infinite m times an angle above 0 is no small product.
@@ -54,16 +31,24 @@ fn own(angle: f64, m: f64) -> bool
     (angle == 0.0) | (whole::magnitude(m) * angle * angle < 2.220446049250313e-16)
 }
 
-// The two terms, of what RF and RD gave; v is RD's value as it is taken.
+// A value formed of what RF and RD gave.
+fn both(f: Outcome, d: Outcome, value: f64) -> Term
+    requires { (f.rounds ≤ 64) × (d.rounds ≤ 64) }
+    ensures { result ≡ record { value = value; met = f.met && d.met; rounds = f.rounds + d.rounds } }
+{
+    Term {
+        value,
+        met: f.met & d.met,
+        rounds: f.rounds + d.rounds,
+    }
+}
+
+// The two terms; v is RD's value as it is taken.
 fn terms_from(m: f64, f: Outcome, d: Outcome, v: f64) -> Term
     requires { (f.rounds ≤ 64) × (d.rounds ≤ 64) }
     ensures { result ≡ two_terms_from m f d v }
 {
-    Term {
-        value: f.value - m * v / 3.0,
-        met: f.met & d.met,
-        rounds: f.rounds + d.rounds,
-    }
+    both(f, d, f.value - m * v / 3.0)
 }
 
 fn two_terms(m: f64, c: f64, c1: f64) -> Term
@@ -90,8 +75,7 @@ fn below(m: f64, c: f64, c1: f64) -> Term
         let t = trusted_terms(m / SCALE, c / SCALE, c1 / SCALE);
         return Term {
             value: t.value / ROOT_OF_SCALE,
-            met: t.met,
-            rounds: t.rounds,
+            ..t
         };
     }
     two_terms(m, c, c1)
@@ -102,11 +86,11 @@ fn above(m: f64, c: f64, c1: f64) -> Term
 {
     let (f, d) = with_rf(c1, c, c - m);
     let t = root::root(c1 / (c * (c - m)));
-    Term {
-        value: (1.0 - m) * f.value + m * (1.0 - m) * d.value / 3.0 + m * t,
-        met: f.met & d.met,
-        rounds: f.rounds + d.rounds,
-    }
+    both(
+        f,
+        d,
+        (1.0 - m) * f.value + m * (1.0 - m) * d.value / 3.0 + m * t,
+    )
 }
 
 fn recipe(m: f64, s2: f64, c2: f64) -> Term
@@ -118,59 +102,109 @@ fn recipe(m: f64, s2: f64, c2: f64) -> Term
     above(m, 1.0 / s2, c2 / s2)
 }
 
-fn with_periods(sign: f64, m: f64, mm: f64, met: bool, v: f64) -> Result<Answer, Refusal>
-    ensures { result ≡ with_periods_of sign m mm met v }
-{
-    if (mm != 0.0) & (m > 1.0) {
-        return Err(Refusal::AboveOne);
+// φ as its sign, ±1, and |φ|.
+#[derive(Clone, Copy)]
+struct Signed {
+    sign: f64,
+    size: f64,
+}
+
+impl Signed {
+    fn of(phi: f64) -> Signed
+        ensures { result ≡ record { sign = sign_of phi; size = magnitude_of phi } }
+    {
+        let size = whole::magnitude(phi);
+        if phi < 0.0 {
+            return Signed { sign: -1.0, size };
+        }
+        Signed { sign: 1.0, size }
     }
-    if !met {
-        return Err(Refusal::Unmet);
-    }
-    if mm != 0.0 {
+
+    // Step 5.
+    fn far(self, m: f64) -> Result<Answer, Refusal>
+        ensures { result ≡ far_of self.sign self.size m }
+    {
+        if m > 1.0 {
+            return Err(Refusal::AboveOne);
+        }
         let e = complete_e(m);
-        return handed(sign * (v + mm * e));
+        handed(self.sign * (self.size * (2.0 * e / PI)))
     }
-    handed(sign * v)
-}
 
-fn by_recipe(sign: f64, m: f64, f: Fold) -> Counted
-    ensures { result ≡ by_recipe_of sign m f }
-{
-    let p = on_circle(f.angle);
-    let s = p.sine;
-    let c = p.cosine;
-    if m * (s * s) >= 1.0 {
-        return unasked(Err(Refusal::Beyond));
+    // Step 7.
+    fn line(self) -> Result<Answer, Refusal>
+        ensures { result ≡ line_of self.sign self.size }
+    {
+        let mm = whole::round(self.size / PI);
+        let s = sine(self.size - mm * PI);
+        handed(self.sign * (2.0 * mm + s))
     }
-    let e = recipe(m, s * s, c * c);
-    Counted {
-        answer: with_periods(sign, m, f.mm, e.met, f.s * e.value),
-        rounds: e.rounds,
-    }
-}
 
-fn reduced(sign: f64, size: f64, m: f64) -> Counted
-    ensures { result ≡ reduced_of sign size m }
-{
-    let f = folded(size);
-    if own(f.angle, m) {
-        return unasked(with_periods(sign, m, f.mm, true, f.s * f.angle));
+    // The refusals that come with a period term, the term itself, and the sign.
+    fn with_periods(self, m: f64, mm: f64, t: Term) -> Result<Answer, Refusal>
+        ensures { result ≡ with_periods_of self.sign m mm t.met t.value }
+    {
+        if (mm != 0.0) & (m > 1.0) {
+            return Err(Refusal::AboveOne);
+        }
+        if !t.met {
+            return Err(Refusal::Unmet);
+        }
+        if mm != 0.0 {
+            let e = complete_e(m);
+            return handed(self.sign * (t.value + mm * e));
+        }
+        handed(self.sign * t.value)
     }
-    by_recipe(sign, m, f)
-}
 
-// Steps 5, 7 and 8.
-fn on_size(sign: f64, size: f64, m: f64) -> Counted
-    ensures { result ≡ on_size_of sign size m }
-{
-    if size > FAR_OUT {
-        return unasked(far(sign, size, m));
+    fn by_recipe(self, m: f64, f: Fold) -> Counted
+        ensures { result ≡ by_recipe_of self.sign m f }
+    {
+        let p = on_circle(f.angle);
+        let s = p.sine;
+        let c = p.cosine;
+        if m * (s * s) >= 1.0 {
+            return unasked(Err(Refusal::Beyond));
+        }
+        let e = recipe(m, s * s, c * c);
+        let t = Term {
+            value: f.s * e.value,
+            ..e
+        };
+        Counted {
+            answer: self.with_periods(m, f.mm, t),
+            rounds: t.rounds,
+        }
     }
-    if m == 1.0 {
-        return unasked(line(sign, size));
+
+    // Step 8.
+    fn reduced(self, m: f64) -> Counted
+        ensures { result ≡ reduced_of self.sign self.size m }
+    {
+        let f = folded(self.size);
+        if own(f.angle, m) {
+            let t = Term {
+                value: f.s * f.angle,
+                met: true,
+                rounds: 0,
+            };
+            return unasked(self.with_periods(m, f.mm, t));
+        }
+        self.by_recipe(m, f)
     }
-    reduced(sign, size, m)
+
+    // Steps 5, 7 and 8.
+    fn on_size(self, m: f64) -> Counted
+        ensures { result ≡ on_size_of self.sign self.size m }
+    {
+        if self.size > FAR_OUT {
+            return unasked(self.far(m));
+        }
+        if m == 1.0 {
+            return unasked(self.line());
+        }
+        self.reduced(m)
+    }
 }
 
 // The answer, and the rounds of all recipes asked for it.
@@ -179,27 +213,24 @@ pub fn ellipeinc(phi: Amplitude, m: Parameter) -> Counted
 {
     let phi = phi.0;
     let m = m.0;
-    let size = whole::magnitude(phi);
     if phi == 0.0 {
         return unasked(Ok(Answer::One(0.0)));
     }
     if m == 0.0 {
         return unasked(itself(phi));
     }
-    let top = infinity(false);
-    if size == top {
+    let a = Signed::of(phi);
+    if a.size == f64::INFINITY {
         return unasked(Ok(Answer::Infinite(phi < 0.0)));
     }
-    if (phi != phi) & (m > 1.0) {
+    if phi.is_nan() & (m > 1.0) {
         return unasked(Err(Refusal::AboveOne));
     }
-    if (phi != phi) | (m != m) {
+    if phi.is_nan() | m.is_nan() {
         return unasked(Err(Refusal::NotANumber));
     }
-    let bottom = infinity(true);
-    if m == bottom {
+    if m == f64::NEG_INFINITY {
         return unasked(Ok(Answer::Infinite(phi < 0.0)));
     }
-    let sign = sign(phi);
-    on_size(sign, size, m)
+    a.on_size(m)
 }

@@ -1,10 +1,12 @@
 -- Down 01's list of tests: the i-th return passed the tests before its own.
-use mathlib.Core.Path.{ap, ◌∙◌}
+use Rattle.std.proofs.Common.{sym, ap, ap₂, Bool, ◌||◌, ◌&&◌, ◌∙◌}
 use lib.Ieee.{of_bits}
+use Rattle.laws.specs.Arithmetic.{◌<·◌, 1·0}
 use Rattle.laws.specs.Ladder.{held, passed}
-use Rattle.answer.specs.Answer.{first_of}
+use Rattle.laws.specs.laws.Kinds.{differs_is}
 use Rattle.answer.specs.Settle.{unasked_of}
-use Rattle.ellipeinc.specs.Ellipeinc.{counted_of}
+use Rattle.ellipeinc.specs.Ellipeinc.{on_size_of, counted_of}
+use Rattle.ellipeinc.specs.declared.Signed.{Signed}
 use Rattle.ellipeinc.proofs.ellipeinc.Goals as goal
 
 pub returns-then-phi : goal.returns-then-phi
@@ -16,29 +18,37 @@ unfolding counted_of
 returns-then-m c =
     passed _ _ c.if-phi.false (held _ _ c.if-m.true (c.unasked-then-m.ensures ∙ ap unasked_of c.itself.ensures))
 
-pub returns-then-size-top : goal.returns-then-size-top
-unfolding counted_of first_of of_bits
-returns-then-size-top c =
-    rw (← c.magnitude-size.ensures) (passed _ _ c.if-phi.false (passed _ _ c.if-m.false (held _ _ (rw c.infinity-top.ensures at c.if-size-top.true) c.unasked-then-size-top.ensures)))
+pub returns-then-a : goal.returns-then-a
+unfolding counted_of of_bits
+returns-then-a c =
+    passed _ _ c.if-phi.false (passed _ _ c.if-m.false (held _ _ (rw c.of-a.ensures at c.if-a.true) c.unasked-then-a.ensures))
 
-pub returns-then-phi-m : goal.returns-then-phi-m
-unfolding counted_of first_of of_bits
-returns-then-phi-m c =
-    rw (← c.magnitude-size.ensures) (passed _ _ c.if-phi.false (passed _ _ c.if-m.false (passed _ _ (rw c.infinity-top.ensures at c.if-size-top.false) (held _ _ c.if-phi-m.true c.unasked-then-phi-m.ensures))))
+pub returns-then-is_nan-m : goal.returns-then-is_nan-m
+unfolding counted_of of_bits
+returns-then-is_nan-m c =
+    let is = differs_is _ ∙ sym c.is_nan.ensures.value in
+    passed _ _ c.if-phi.false (passed _ _ c.if-m.false (passed _ _ (rw c.of-a.ensures at c.if-a.false) (held _ _ (ap (λ (b : Bool). b && 1·0 <· c.args.m.0) is ∙ c.if-is_nan-m.true) c.unasked-then-is_nan-m.ensures)))
 
-pub returns-then-phi-m-2 : goal.returns-then-phi-m-2
-unfolding counted_of first_of of_bits
-returns-then-phi-m-2 c =
-    rw (← c.magnitude-size.ensures) (passed _ _ c.if-phi.false (passed _ _ c.if-m.false (passed _ _ (rw c.infinity-top.ensures at c.if-size-top.false) (passed _ _ c.if-phi-m.false (held _ _ c.if-phi-m-2.true c.unasked-then-phi-m-2.ensures)))))
+pub returns-then-is_nan : goal.returns-then-is_nan
+unfolding counted_of of_bits
+returns-then-is_nan c =
+    let is = differs_is _ ∙ sym c.is_nan.ensures.value in
+    let either = ap₂ (λ (a b : Bool). a || b) (differs_is _ ∙ sym c.is_nan-2.ensures.value) (differs_is _ ∙ sym c.is_nan-3.ensures.value) in
+    passed _ _ c.if-phi.false (passed _ _ c.if-m.false (passed _ _ (rw c.of-a.ensures at c.if-a.false) (passed _ _ (ap (λ (b : Bool). b && 1·0 <· c.args.m.0) is ∙ c.if-is_nan-m.false)
+    (held _ _ (either ∙ c.if-is_nan.true) c.unasked-then-is_nan.ensures))))
 
-pub returns-then-m-bottom : goal.returns-then-m-bottom
-unfolding counted_of first_of of_bits
-returns-then-m-bottom c =
-    rw (← c.magnitude-size.ensures) (passed _ _ c.if-phi.false (passed _ _ c.if-m.false (passed _ _ (rw c.infinity-top.ensures at c.if-size-top.false) (passed _ _ c.if-phi-m.false (passed _ _ c.if-phi-m-2.false
-    (held _ _ (rw c.infinity-bottom.ensures at c.if-m-bottom.true) c.unasked-then-m-bottom.ensures))))))
+pub returns-then-m-2 : goal.returns-then-m-2
+unfolding counted_of of_bits
+returns-then-m-2 c =
+    let is = differs_is _ ∙ sym c.is_nan.ensures.value in
+    let either = ap₂ (λ (a b : Bool). a || b) (differs_is _ ∙ sym c.is_nan-2.ensures.value) (differs_is _ ∙ sym c.is_nan-3.ensures.value) in
+    passed _ _ c.if-phi.false (passed _ _ c.if-m.false (passed _ _ (rw c.of-a.ensures at c.if-a.false) (passed _ _ (ap (λ (b : Bool). b && 1·0 <· c.args.m.0) is ∙ c.if-is_nan-m.false)
+    (passed _ _ (either ∙ c.if-is_nan.false) (held _ _ c.if-m-2.true c.unasked-then-m-2.ensures)))))
 
 pub returns : goal.returns
-unfolding counted_of first_of of_bits
+unfolding counted_of of_bits
 returns c =
-    rw (← c.magnitude-size.ensures, ← c.sign-sign.ensures) (passed _ _ c.if-phi.false (passed _ _ c.if-m.false (passed _ _ (rw c.infinity-top.ensures at c.if-size-top.false) (passed _ _ c.if-phi-m.false (passed _ _ c.if-phi-m-2.false
-    (passed _ _ (rw c.infinity-bottom.ensures at c.if-m-bottom.false) c.on_size.ensures))))))
+    let is = differs_is _ ∙ sym c.is_nan.ensures.value in
+    let either = ap₂ (λ (a b : Bool). a || b) (differs_is _ ∙ sym c.is_nan-2.ensures.value) (differs_is _ ∙ sym c.is_nan-3.ensures.value) in
+    passed _ _ c.if-phi.false (passed _ _ c.if-m.false (passed _ _ (rw c.of-a.ensures at c.if-a.false) (passed _ _ (ap (λ (b : Bool). b && 1·0 <· c.args.m.0) is ∙ c.if-is_nan-m.false)
+    (passed _ _ (either ∙ c.if-is_nan.false) (passed _ _ c.if-m-2.false (c.on_size.ensures ∙ ap (λ (a : Signed). on_size_of a.sign a.size c.args.m.0) c.of-a.ensures))))))

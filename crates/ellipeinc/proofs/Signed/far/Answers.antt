@@ -2,7 +2,7 @@
 use mathlib.Core.Path.{refl}
 use Rattle.laws.specs.Ladder.{held, passed}
 use Rattle.ellipeinc.specs.Ellipeinc.{far_of}
-use Rattle.ellipeinc.proofs.far.Goals as goal
+use Rattle.ellipeinc.proofs.Signed.far.Goals as goal
 
 pub returns-then-m : goal.returns-then-m
 unfolding far_of

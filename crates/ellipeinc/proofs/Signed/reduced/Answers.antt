@@ -3,7 +3,7 @@ use mathlib.Core.Path.{sym, ap, ◌∙◌}
 use Rattle.laws.specs.Ladder.{held, passed}
 use Rattle.answer.specs.Settle.{unasked_of}
 use Rattle.ellipeinc.specs.Ellipeinc.{reduced_of}
-use Rattle.ellipeinc.proofs.reduced.Goals as goal
+use Rattle.ellipeinc.proofs.Signed.reduced.Goals as goal
 
 pub returns-then-own : goal.returns-then-own
 unfolding reduced_of

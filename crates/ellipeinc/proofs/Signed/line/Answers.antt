@@ -1,6 +1,6 @@
 -- The body is the definition, each call replaced by what it ensures.
 use Rattle.ellipeinc.specs.Ellipeinc.{line_of}
-use Rattle.ellipeinc.proofs.line.Goals as goal
+use Rattle.ellipeinc.proofs.Signed.line.Goals as goal
 
 pub returns : goal.returns
 unfolding line_of

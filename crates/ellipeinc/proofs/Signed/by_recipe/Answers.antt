@@ -1,7 +1,7 @@
 -- The body is the definition, each call replaced by what it ensures.
 use Rattle.laws.specs.Ladder.{held, passed}
 use Rattle.ellipeinc.specs.Ellipeinc.{by_recipe_of}
-use Rattle.ellipeinc.proofs.by_recipe.Goals as goal
+use Rattle.ellipeinc.proofs.Signed.by_recipe.Goals as goal
 
 pub returns-then-m-s : goal.returns-then-m-s
 unfolding by_recipe_of

@@ -3,25 +3,12 @@
 #![tactic(auto)]
 
 ghost use Rattle.std.specs.Prelude.{◌≡◌};
-ghost use Rattle.ellipf.specs.Ellipf.{signum_of, pole_of, far_of, middle_of, recipe_of, closed_of, with_periods_of, reduced_of, counted_of};
+ghost use Rattle.ellipf.specs.Ellipf.{pole_of, far_of, middle_of, recipe_of, closed_of, with_periods_of, reduced_of, counted_of};
 
-use answer::{
-    Amplitude, Answer, Counted, Parameter, Refusal, Term, handed, infinite, infinity, settled,
-    unasked,
-};
+use answer::{Amplitude, Answer, Counted, Parameter, Refusal, Term, handed, settled, unasked};
+use carlson::Outcome;
 use incomplete::{FAR_OUT, HALF_PI, ROOT_OF_SCALE, SCALE, folded, large, on_circle, sine};
 use rf::rf;
-
-// 1/φ tells -0 from +0.
-fn signum(phi: f64) -> f64
-    ensures { result ≡ signum_of phi }
-{
-    if (phi < 0.0) | ((phi == 0.0) & (1.0 / phi < 0.0)) {
-        -1.0
-    } else {
-        1.0
-    }
-}
 
 // Sine is asked only of |φ| < π/2.
 fn hides_pole(phi: f64, m: f64) -> bool
@@ -40,9 +27,8 @@ fn hides_pole(phi: f64, m: f64) -> bool
 fn far(sign: f64, size: f64, m: f64) -> Result<Answer, Refusal>
     ensures { result ≡ far_of sign size m }
 {
-    let top = infinity(false);
-    if size == top {
-        return handed(sign * top);
+    if size == f64::INFINITY {
+        return handed(sign * f64::INFINITY);
     }
     let k = legendre::k_unchecked(Parameter(m));
     handed(sign * size * (k / HALF_PI))
@@ -59,47 +45,46 @@ fn middle(m: f64, c: f64, c1: f64) -> f64
     c - m
 }
 
+// A value formed of what RF gave.
+fn of_rf(f: Outcome, value: f64) -> Term
+    ensures { result ≡ record { value = value; met = f.met; rounds = f.rounds } }
+{
+    Term {
+        value,
+        met: f.met,
+        rounds: f.rounds,
+    }
+}
+
 fn recipe(s: f64, m: f64, sine: f64, cosine: f64) -> Term
     ensures { result ≡ recipe_of s m sine cosine }
 {
     let s2 = sine * sine;
     let c2 = cosine * cosine;
     let c = 1.0 / s2;
-    if infinite(c) {
+    if c.is_infinite() {
         let f = rf(c2, 1.0 - m * sine * sine, 1.0);
-        return Term {
-            value: s * sine * f.value,
-            met: f.met,
-            rounds: f.rounds,
-        };
+        return of_rf(f, s * sine * f.value);
     }
     let c1 = c2 / s2;
     let y = middle(m, c, c1);
     if large(m, c) {
         let f = rf(c1 / SCALE, y / SCALE, c / SCALE);
-        return Term {
-            value: s * (f.value / ROOT_OF_SCALE),
-            met: f.met,
-            rounds: f.rounds,
-        };
+        return of_rf(f, s * (f.value / ROOT_OF_SCALE));
     }
     let f = rf(c1, y, c);
-    Term {
-        value: s * f.value,
-        met: f.met,
-        rounds: f.rounds,
-    }
+    of_rf(f, s * f.value)
 }
 
-fn closed(m: f64, met: bool, v: f64) -> Result<Answer, Refusal>
-    ensures { result ≡ closed_of m met v }
+// F(φ, -∞) is 0 where there is no finite answer.
+fn closed(m: f64, t: Term) -> Result<Answer, Refusal>
+    ensures { result ≡ closed_of m t.met t.value }
 {
-    let lost = !met | ((v != v) | infinite(v));
-    let bottom = infinity(true);
-    if (m == bottom) & lost {
+    let lost = !t.met | !t.value.is_finite();
+    if (m == f64::NEG_INFINITY) & lost {
         return Ok(Answer::One(0.0));
     }
-    settled(met, v)
+    settled(t.met, t.value)
 }
 
 fn with_periods(sign: f64, m: f64, mm: f64, t: Term) -> Result<Answer, Refusal>
@@ -107,9 +92,11 @@ fn with_periods(sign: f64, m: f64, mm: f64, t: Term) -> Result<Answer, Refusal>
 {
     if mm != 0.0 {
         let k = legendre::k_unchecked(Parameter(m));
-        return closed(m, t.met, sign * (t.value + mm * k));
+        let value = sign * (t.value + mm * k);
+        return closed(m, Term { value, ..t });
     }
-    closed(m, t.met, sign * t.value)
+    let value = sign * t.value;
+    closed(m, Term { value, ..t })
 }
 
 fn reduced(sign: f64, size: f64, m: f64) -> Counted
@@ -134,7 +121,7 @@ pub fn ellipf(phi: Amplitude, m: Parameter) -> Counted
 {
     let phi = phi.0;
     let m = m.0;
-    if (phi != phi) | (m != m) {
+    if phi.is_nan() | m.is_nan() {
         return unasked(Err(Refusal::NotANumber));
     }
     if m == 0.0 {
@@ -143,7 +130,7 @@ pub fn ellipf(phi: Amplitude, m: Parameter) -> Counted
     if hides_pole(phi, m) {
         return unasked(Err(Refusal::Beyond));
     }
-    let sign = signum(phi);
+    let sign = phi.signum();
     let size = whole::magnitude(phi);
     if size > FAR_OUT {
         return unasked(far(sign, size, m));

@@ -2,12 +2,11 @@
 // Domain: m ≤ 1, n ≠ 1; for n > 1 Cauchy's principal value. Arms and order of operations: ellippi.rs.
 #![tactic(auto)]
 
-ghost use Rattle.std.specs.Prelude.{◌≡◌};
+ghost use Rattle.std.specs.Prelude.{◌≡◌, ◌≤◌, ◌+◌};
 ghost use Rattle.ellippi.specs.Ellippi.{plain_term, from_rest_of, principal_of, weight_of, both_below_of, first_below_of, first_zero_of, diagonal_of, arms_of, counted_of};
 
-use answer::{
-    Answer, Characteristic, Counted, Parameter, Refusal, Term, infinity, settled, unasked,
-};
+use answer::{Answer, Characteristic, Counted, Parameter, Refusal, Term, settled, unasked};
+use carlson::Outcome;
 use incomplete::HALF_PI;
 use legendre::{complete_e, complete_k};
 use rj::{rj, with_rf};
@@ -20,6 +19,18 @@ fn plain_term(value: f64) -> Term
         value,
         met: true,
         rounds: 0,
+    }
+}
+
+// A value formed of what RJ gave.
+fn of_rj(j: Outcome, value: f64) -> Term
+    requires { (j.rounds ≤ 64) × (j.inside ≤ 4096) }
+    ensures { result ≡ record { value = value; met = j.met; rounds = j.rounds + j.inside } }
+{
+    Term {
+        value,
+        met: j.met,
+        rounds: j.rounds + j.inside,
     }
 }
 
@@ -39,11 +50,7 @@ fn principal(n: f64, m: f64) -> Term
     ensures { result ≡ principal_of n m }
 {
     let j = rj(0.0, 1.0 - m, 1.0, 1.0 - m / n);
-    Term {
-        value: -(1.0 / 3.0) * m / n * j.value,
-        met: j.met,
-        rounds: j.rounds + j.inside,
-    }
+    of_rj(j, -(1.0 / 3.0) * m / n * j.value)
 }
 
 // 2^500: the square of a number above 2^511 is no f64.
@@ -70,11 +77,7 @@ fn both_below(n: f64, m: f64) -> Term
     let k = complete_k(m);
     let w = weight(n, rn, rm);
     let j = rj(0.0, rm, 1.0, rm / rn);
-    Term {
-        value: k / rn + w * j.value,
-        met: j.met,
-        rounds: j.rounds + j.inside,
-    }
+    of_rj(j, k / rn + w * j.value)
 }
 
 fn first_below(n: f64, m: f64) -> Term
@@ -86,8 +89,7 @@ fn first_below(n: f64, m: f64) -> Term
     let k = complete_k(m);
     Term {
         value: b + k * m / (m - n),
-        met: t.met,
-        rounds: t.rounds,
+        ..t
     }
 }
 
@@ -135,7 +137,7 @@ pub fn ellippi(n: Characteristic, m: Parameter) -> Counted
 {
     let n = n.0;
     let m = m.0;
-    if (n != n) | (m != m) {
+    if n.is_nan() | m.is_nan() {
         return unasked(Err(Refusal::NotANumber));
     }
     if m > 1.0 {
@@ -147,8 +149,7 @@ pub fn ellippi(n: Characteristic, m: Parameter) -> Counted
     if m == 1.0 {
         return unasked(Ok(Answer::Infinite(1.0 - n < 0.0)));
     }
-    let below = infinity(true);
-    if (n == below) | (m == below) {
+    if (n == f64::NEG_INFINITY) | (m == f64::NEG_INFINITY) {
         return unasked(Ok(Answer::One(0.0)));
     }
     let t = arms(n, m);

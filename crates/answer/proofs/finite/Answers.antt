@@ -1,7 +1,7 @@
 -- Down the test, which tells a finite value from the other two kinds.
 use Rattle.std.proofs.Common.{refl, sym, ◌∙◌}
 use Rattle.laws.specs.Ladder.{held, passed}
-use Rattle.answer.proofs.Floats.{finite_kinds}
+use Rattle.answer.specs.laws.Floats.{finite_kinds}
 use Rattle.answer.proofs.finite.Goals as goal
 
 pub returns-then-is_finite : goal.returns-then-is_finite

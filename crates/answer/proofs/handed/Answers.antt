@@ -1,7 +1,7 @@
 -- Down the tests, which tell the three kinds of value apart.
 use Rattle.std.proofs.Common.{refl, sym, ◌∙◌}
 use Rattle.laws.specs.Ladder.{held, passed}
-use Rattle.answer.proofs.Floats.{handed_kinds}
+use Rattle.answer.specs.laws.Floats.{handed_kinds}
 use Rattle.answer.proofs.handed.Goals as goal
 
 pub returns-then-is_nan : goal.returns-then-is_nan

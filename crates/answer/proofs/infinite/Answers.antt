@@ -1,6 +1,6 @@
 -- std's method is the definition.
 use Rattle.std.proofs.Common.{◌∙◌}
-use Rattle.answer.proofs.Floats.{infinite_kinds}
+use Rattle.answer.specs.laws.Floats.{infinite_kinds}
 use Rattle.answer.proofs.infinite.Goals as goal
 
 pub returns : goal.returns

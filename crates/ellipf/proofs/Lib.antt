@@ -1,2 +1,2 @@
 -- What more than one function's proof cites.
-mod Floats
+mod Sign

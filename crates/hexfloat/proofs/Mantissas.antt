@@ -8,8 +8,11 @@ use lib.ListN.{length, take, drop, length-append}
 use lib.Seq.{length-take-le}
 use lib.Ieee.{binary64, round, to_bits}
 use borrow.Author.Tests.{lt-ltb, le-ltb}
-use Rattle.line.specs.declared.Number.{Number}
-use Rattle.line.specs.declared.Number.TheVariants.{Value, Not}
+use Rattle.std.specs.Prelude.{Option, Some, None}
+use Rattle.std.specs.Option.{option_and_then}
+use Rattle.hexfloat.specs.declared.digits.Held.{Held}
+use Rattle.hexfloat.specs.Steps.{no_digits, held_from, Leads}
+use Rattle.hexfloat.specs.laws.Holding.{leads_both}
 use Rattle.hexfloat.specs.Reading.{before, hex_of, given, scaled_by, behind_of, mantissa_of, float_of}
 
 -- ---- around the point
@@ -20,13 +23,17 @@ module _ (s : List ℕ) (place : ℕ) (is : place ≡ before 46 46 s) (within : 
   all-length : length (take place s ++ drop (place + 1) s) ≡ place + length behind
   all-length = length-append (take place s) (drop (place + 1) s) ∙ ap (λ (k : ℕ). k + length (drop (place + 1) s)) front_length ∙ ap (λ (x : List ℕ). place + length x) (sym rest)
 
-  pub no_mantissa : (eqb (place + length behind) 0 || ltb 40 (place + length behind)) ≡ true → mantissa_of s ≡ Not
+  pub no_mantissa : (eqb (place + length behind) 0 || ltb 40 (place + length behind)) ≡ true → mantissa_of s ≡ None
   unfolding mantissa_of
   no_mantissa e = rw (← is, all-length, e) refl
 
-  pub mantissa_is : (eqb (place + length behind) 0 || ltb 40 (place + length behind)) ≡ false → mantissa_of s ≡ hex_of 0 (take place s ++ behind)
+  mantissa_is : (eqb (place + length behind) 0 || ltb 40 (place + length behind)) ≡ false → mantissa_of s ≡ hex_of 0 (take place s ++ behind)
   unfolding mantissa_of
   mantissa_is e = rw (← is, all-length, e, rest) refl
+
+  pub mantissa_leads : (eqb (place + length behind) 0 || ltb 40 (place + length behind)) ≡ false
+      → Leads (mantissa_of s) (option_and_then (λ (h : Held). held_from h behind) (held_from no_digits (take place s)))
+  mantissa_leads e = rw (mantissa_is e) (leads_both (take place s) behind)
 
   pub behind_is : length behind ≡ behind_of s
   unfolding behind_of
@@ -34,15 +41,15 @@ module _ (s : List ℕ) (place : ℕ) (is : place ≡ before 46 46 s) (within : 
 
 -- ---- around the p
 module _ (negative : Bool) (s : List ℕ) (size : ℕ) (is : size ≡ before 112 80 s) where
-  pub float-none : mantissa_of (take size s) ≡ Not → Not ≡ float_of negative s
+  pub float-none : mantissa_of (take size s) ≡ None → None ≡ float_of negative s
   unfolding float_of given
   float-none e = rw (← is, e) refl
 
-  module _ (n : ℕ) (e : mantissa_of (take size s) ≡ Value n) (r : Number) where
+  module _ (n : ℕ) (e : mantissa_of (take size s) ≡ Some n) (r : Option ℕ) where
     pub float_power : size < length s → r ≡ scaled_by negative n (behind_of (take size s)) (drop (size + 1) s) → r ≡ float_of negative s
     unfolding float_of given
     float_power l d = rw (← is, e, lt-ltb size (length s) l) d
 
-    pub float_plain : length s ≤ size → r ≡ Value (to_bits binary64 (round binary64 negative n (2 ^ (4 * behind_of (take size s))))) → r ≡ float_of negative s
+    pub float_plain : length s ≤ size → r ≡ Some (to_bits binary64 (round binary64 negative n (2 ^ (4 * behind_of (take size s))))) → r ≡ float_of negative s
     unfolding float_of given
     float_plain l d = rw (← is, e, le-ltb size (length s) l) d

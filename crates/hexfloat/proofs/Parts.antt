@@ -1,59 +1,54 @@
--- Bytes of a field, one by one. Assumes nothing.
+-- Bytes of a field. Assumes nothing.
 use mathlib.Core.Path.{◌≡◌, refl, sym, ap, ◌∙◌}
-use Prim.Native.Nat.{ℕ, suc, ◌+◌, ◌-◌, ◌≤◌, ◌<◌}
-use native.Mathlib.Numerals.{add-one}
+use Prim.Native.Nat.{ℕ, suc, ◌+◌, ◌-◌, ◌≤◌}
+use mathlib.Core.Bool.{Bool, true, false, cond, ◌&&◌}
 use native.Mathlib.Omega.{arith}
-use native.Mathlib.Nat.{le_of_eq}
-use mathlib.Core.Bool.{Bool, true, false, ◌&&◌}
 use mathlib.Core.List.{List, [], ◌∷◌}
-use lib.ListN.{length, take, drop, get_or, drop_of_length-le, length-drop}
-use lib.Seq.{drop-cons, take_all}
 use lib.Dec.{eqb}
-use borrow.Author.Tests.{eq-eqb, ne_eqb}
+use lib.ListN.{length, take, drop, get_or, length-drop}
+use lib.Seq.{take_all}
+use Rattle.std.specs.Option.{unwrap_or}
+use Rattle.std.specs.List.{position}
+use Rattle.std.specs.Cmp.Lexicographic.{pointwise}
+use Rattle.std.proofs.lemmas.List.Recursion.{is_position_or_len}
+use Rattle.line.proofs.Parts.{first_or_end}
 use Rattle.hexfloat.specs.Reading.{same, either, before}
 
--- ---- the first a or b
-module _ (a b : ℕ) (s : List ℕ) (i : ℕ) where
-  pub found : i < length s → either a b (get_or s i 0) ≡ true → before a b (drop i s) ≡ 0
-  unfolding before
-  found h e = rw (drop-cons s i 0 h) (simp e)
+-- what stands before the first a or b is as long as its place says
+pub before_is : (a b : ℕ) (s : List ℕ) → unwrap_or (position (either a b) s) (length s) ≡ before a b s
+unfolding before
+before_is a b s = first_or_end (either a b) s ∙ sym (is_position_or_len (before a b) (either a b) refl (λ _ _. refl) s)
 
-  pub goes_on_lem : i < length s → either a b (get_or s i 0) ≡ false → before a b (drop i s) ≡ 1 + before a b (drop (i + 1) s)
-  unfolding before
-  goes_on_lem h e = rw add-one (rw (drop-cons s i 0 h) (simp e))
-
-  pub not_found : length s ≤ i → before a b (drop i s) ≡ 0
-  unfolding before
-  not_found h = rw (drop_of_length-le s h) refl
+-- and no longer than all
+pub before_within : (a b : ℕ) (s : List ℕ) → before a b s ≤ length s
+unfolding before
+before_within a b [] = omega arith
+before_within a b (x ∷ xs) = go (either a b x) (before_within a b xs) where
+  go : (t : Bool) → before a b xs ≤ length xs → cond t 0 (1 + before a b xs) ≤ suc (length xs)
+  go true h = omega arith
+  go false h = omega arith
 
 -- ---- two strings
-pub other_length : (s t : List ℕ) → (length s ≡ length t → ⊥) → same s t ≡ false
+
+pub same_is : (s t : List ℕ) → pointwise eqb s t ≡ same s t
 unfolding same
-other_length [] [] h = absurd (h refl)
-other_length [] (y ∷ ys) h = refl
-other_length (x ∷ xs) [] h = refl
-other_length (x ∷ xs) (y ∷ ys) h = go (eqb x y) (other_length xs ys (λ e. h (ap suc e)))
-  where
-    go : (t : Bool) → same xs ys ≡ false → (t && same xs ys) ≡ false
-    go true e = e
-    go false e = refl
+same_is [] [] = refl
+same_is [] (y ∷ ys) = refl
+same_is (x ∷ xs) [] = refl
+same_is (x ∷ xs) (y ∷ ys) = ap (λ (t : Bool). eqb x y && t) (same_is xs ys)
 
-module _ (s t : List ℕ) (i : ℕ) (h : i < length s) (k : i < length t) where
-  pub differ : (get_or s i 0 ≡ get_or t i 0 → ⊥) → same (drop i s) (drop i t) ≡ false
-  unfolding same
-  differ e = rw (drop-cons s i 0 h, drop-cons t i 0 k) (simp (ne_eqb (get_or s i 0) (get_or t i 0) e))
+-- a minus sign in front
+pub minus_is : (s : List ℕ) → pointwise eqb (take 1 s) (45 ∷ []) ≡ eqb (get_or s 0 0) 45
+minus_is [] = refl
+minus_is (x ∷ xs) = go (eqb x 45) where
+  go : (t : Bool) → (t && true) ≡ t
+  go true = refl
+  go false = refl
 
-  pub agree : get_or s i 0 ≡ get_or t i 0 → same (drop i s) (drop i t) ≡ same (drop (i + 1) s) (drop (i + 1) t)
-  unfolding same
-  agree e = rw add-one (rw (drop-cons s i 0 h, drop-cons t i 0 k) (simp (eq-eqb (get_or s i 0) (get_or t i 0) e)))
+-- what `==` says of two strings
+pub named : (s x t : List ℕ) {r b : Bool} → r ≡ pointwise eqb s x → x ≡ t → r ≡ b → same s t ≡ b
+named s x t e is told = sym (same_is s t) ∙ ap (pointwise eqb s) (sym is) ∙ sym e ∙ told
 
-pub all-agree : (s t : List ℕ) (i : ℕ) → length s ≤ i → length t ≤ i → same (drop i s) (drop i t) ≡ true
-unfolding same
-all-agree s t i h k = rw (drop_of_length-le s h, drop_of_length-le t k) refl
-
--- ---- what is left
+-- what is left
 pub rest_part : (s : List ℕ) (i : ℕ) → take (length s - i) (drop i s) ≡ drop i s
 rest_part s i = take_all (length s - i) (drop i s) (simp length-drop (omega arith))
-
-pub nothing_left : (s : List ℕ) (i : ℕ) → length s ≤ i → take (length s - length s) (drop (length s) s) ≡ drop i s
-nothing_left s i h = rest_part s (length s) ∙ drop_of_length-le s (le_of_eq refl) ∙ sym (drop_of_length-le s h)

@@ -1,27 +1,25 @@
 -- The steps of reading: digits held in two limbs, and their rounding. Definitions only.
-use Rattle.std.specs.Prelude.{◌≡◌, ℕ, ◌+◌, ◌*◌, ◌-◌, ◌/◌, ◌%◌, ◌^◌, ◌≤◌, ◌<◌, Bool, true, false, ◌||◌, List, [], ◌∷◌, ltb, Float}
+use Rattle.std.specs.Prelude.{ℕ, ◌+◌, ◌*◌, ◌-◌, ◌/◌, ◌%◌, ◌^◌, ◌≤◌, ◌<◌, Bool, false, ◌||◌, Option, Some, None, List, [], ◌∷◌, ltb, Float}
 use Rattle.laws.specs.Ladder.{when◌gives◌else◌}
-use Rattle.line.specs.declared.Number.{Number}
-use Rattle.line.specs.declared.Number.TheVariants.{Value, Not}
 use Rattle.bits.specs.Rounded.{Kept, rounded_of}
 use Rattle.hexfloat.specs.declared.digits.Held.{Held}
 use Rattle.hexfloat.specs.Reading.{hex_digit_of}
 
-abbrev pub no_digits : Bool → Held
-no_digits good = record { high = 0; low = 0; more = false; dropped = 0; good = good }
+abbrev pub no_digits : Held
+no_digits = record { high = 0; low = 0; more = false; dropped = 0 }
 
 -- one more digit: into the 128 bits, or dropped where they are full
 unfoldable pub with_digit : Held → ℕ → Held
 with_digit h d =
-    when ltb h.high (2 ^ 60) gives record { high = h.high * 16 + h.low / 2 ^ 60; low = h.low % 2 ^ 60 * 16 + d; more = h.more; dropped = h.dropped; good = h.good } else
-    record { high = h.high; low = h.low; more = h.more || ltb 0 d; dropped = h.dropped + 1; good = h.good }
+    when ltb h.high (2 ^ 60) gives record { high = h.high * 16 + h.low / 2 ^ 60; low = h.low % 2 ^ 60 * 16 + d; more = h.more; dropped = h.dropped } else
+    record { high = h.high; low = h.low; more = h.more || ltb 0 d; dropped = h.dropped + 1 }
 
--- digits after those held
-unfoldable pub held_from : Held → List ℕ → Held
-held_from h [] = h
+-- digits after those held; none where a byte is no digit
+unfoldable pub held_from : Held → List ℕ → Option Held
+held_from h [] = Some h
 held_from h (x ∷ xs) =
     when ltb (hex_digit_of x) 16 gives held_from (with_digit h (hex_digit_of x)) xs else
-    no_digits false
+    None
 
 -- what is held, times 2 ^ up / 2 ^ down, to the nearest f64; so far down it is nothing
 unfoldable pub scaled_of : Bool → Held → ℕ → ℕ → Float
@@ -35,6 +33,8 @@ pub record Holds (n : ℕ) (h : Held) : Type 0 where
   pub full : 0 < h.dropped → 2 ^ 60 ≤ h.high
 
 -- digits held spell this number; or a byte was no digit, and there is none
-unfoldable pub Leads : Number → Held → Type 0
-Leads Not h = h.good ≡ false
-Leads (Value n) h = (h.good ≡ true) × Holds n h
+unfoldable pub Leads : Option ℕ → Option Held → Type 0
+Leads None None = Unit {0}
+Leads None (Some h) = ⊥
+Leads (Some n) None = ⊥
+Leads (Some n) (Some h) = Holds n h

@@ -1,38 +1,36 @@
 // Hex digits, one after the other, and the number that they come to.
 ghost use Rattle.std.specs.Prelude.{◌≡◌, ◌+◌, ◌≤◌, ◌<◌, length};
-ghost use Rattle.hexfloat.specs.Reading.{hex_digit_of};
+ghost use Rattle.hexfloat.specs.Reading.{hex_value};
 ghost use Rattle.hexfloat.specs.Steps.{no_digits, with_digit, held_from, scaled_of};
 
-// 128 bits of the digits so far, how many were dropped behind those, and whether one of them was not 0; or that a byte was no digit.
+// 128 bits of the digits so far, how many were dropped behind those, and whether one of them was not 0.
 #[derive(Clone, Copy)]
 pub(crate) struct Held {
     pub(crate) high: u64,
     pub(crate) low: u64,
     pub(crate) more: bool,
     pub(crate) dropped: u64,
-    pub(crate) good: bool,
 }
 
-pub(crate) fn no_digits(good: bool) -> Held
-    ensures { result ≡ no_digits good }
+pub(crate) fn no_digits() -> Held
+    ensures { result ≡ no_digits }
 {
     Held {
         high: 0,
         low: 0,
         more: false,
         dropped: 0,
-        good,
     }
 }
 
-// What a hex digit of either case is worth; 16 for any other byte.
-fn hex_digit(b: u8) -> u64
-    ensures { result ≡ hex_digit_of b }
+// What a hex digit of either case is worth.
+fn hex_digit(b: u8) -> Option<u64>
+    ensures { result ≡ hex_value b }
 {
-    if (64 < b) & (b < 71) {
-        return (b as u64) - 55;
+    match b {
+        b'A'..=b'F' => Some(u64::from(b - b'A') + 10),
+        _ => line::digit(b),
     }
-    line::digit(b)
 }
 
 fn with_digit(h: Held, d: u64) -> Held
@@ -45,7 +43,6 @@ fn with_digit(h: Held, d: u64) -> Held
             low: h.low % 0x1000_0000_0000_0000 * 16 + d,
             more: h.more,
             dropped: h.dropped,
-            good: h.good,
         };
     }
     Held {
@@ -53,26 +50,20 @@ fn with_digit(h: Held, d: u64) -> Held
         low: h.low,
         more: h.more | (0 < d),
         dropped: h.dropped + 1,
-        good: h.good,
     }
 }
 
-// Digits after those held. At most 40 are asked for in all.
-pub(crate) fn take_digits(s: &[u8], from: Held) -> Held
+// Digits after those held; none where a byte is no digit. At most 40 are asked for in all.
+pub(crate) fn take_digits(s: &[u8], from: Held) -> Option<Held>
     requires { from.dropped + length s.now ≤ 40 }
     ensures { result ≡ held_from from s.now }
 {
     let mut h = from;
-    let mut i: usize = 0;
-    while i < s.len() {
-        let d = hex_digit(s[i]);
-        if 16 <= d {
-            return no_digits(false);
-        }
+    for b in s {
+        let d = hex_digit(*b)?;
         h = with_digit(h, d);
-        i += 1;
     }
-    h
+    Some(h)
 }
 
 // What is held, times 2^up / 2^down, rounded once. The rounding counts in 2^-2340; below that there is nothing left of 160 digits.

@@ -16,11 +16,7 @@ pub fn part(e: u8, s: &[u8], at: usize) -> &[u8]
 pub fn next(e: u8, s: &[u8], at: usize) -> usize
     ensures { result ≡ next_of e s.now at }
 {
-    let n = find(after(s, at), e, e);
-    if at < s.len() {
-        return at + n + 1;
-    }
-    s.len() + n + 1
+    at.min(s.len()) + find(after(s, at), e, e) + 1
 }
 
 // Where part j begins.
@@ -28,10 +24,8 @@ pub(crate) fn place(e: u8, s: &[u8], j: u64) -> usize
     ensures { result ≡ place_of e s.now j }
 {
     let mut at: usize = 0;
-    let mut i: u64 = 0;
-    while i < j {
+    for _ in 0..j {
         at = next(e, s, at);
-        i += 1;
     }
     at
 }

@@ -5,8 +5,7 @@ use native.Mathlib.Nat.{min-eq_left, min-eq_right, min-le_right}
 use native.Mathlib.Omega.{arith}
 use mathlib.Core.List.{List}
 use borrow.Author.Tests.{eq-eqb, ne_eqb, lt-ltb}
-use Rattle.line.specs.declared.Number.{Number}
-use Rattle.line.specs.declared.Number.TheVariants.{Value, Not}
+use Rattle.std.specs.Prelude.{Option, Some, None}
 use Rattle.line.specs.laws.Long.{below}
 use Rattle.ledger.specs.Sheet.{most_rows}
 use Rattle.ledger.specs.Calls.{blank_refusal, blank_of}
@@ -15,10 +14,10 @@ use Rattle.hexline.specs.Parts.{next_of}
 use Rattle.hextext.specs.HexText.{halt_at, came, rows_into, count_into, capped}
 
 module _ (t s : List ℕ) where
-  pub no_count : (x : Number) → Not ≡ capped x → came s (halt_at 18 1 1) ≡ count_into t s x
+  pub no_count : (x : Option ℕ) → None ≡ capped x → came s (halt_at 18 1 1) ≡ count_into t s x
   unfolding capped count_into
-  no_count Not e = refl
-  no_count (Value r) e = let z : ◌≡◌ {A = ℕ} 0 1 = cc in absurd (omega arith)
+  no_count None e = refl
+  no_count (Some r) e = let z : ◌≡◌ {A = ℕ} 0 1 = cc in absurd (omega arith)
 
   -- a count is refused as it is when it is cut
   same_refusal : (n r : ℕ) → n ≡ min r (most_rows + 1) → blank_refusal s n ≡ blank_refusal s r
@@ -30,17 +29,17 @@ module _ (t s : List ℕ) where
       let many : n ≡ 1025 = e ∙ min-eq_right more in
       rw many (simp (lt-ltb most_rows r (omega arith))))
 
-  pub count_refused : (x : Number) (n : ℕ) → Value n ≡ capped x → (blank_refusal s n ≡ 0 → ⊥) → came s (halt_at (blank_refusal s n) 0 0) ≡ count_into t s x
+  pub count_refused : (x : Option ℕ) (n : ℕ) → Some n ≡ capped x → (blank_refusal s n ≡ 0 → ⊥) → came s (halt_at (blank_refusal s n) 0 0) ≡ count_into t s x
   unfolding capped count_into
-  count_refused Not n e bad = let z : ◌≡◌ {A = ℕ} 0 1 = cc in absurd (omega arith)
-  count_refused (Value r) n e bad =
+  count_refused None n e bad = let z : ◌≡◌ {A = ℕ} 0 1 = cc in absurd (omega arith)
+  count_refused (Some r) n e bad =
       let is : n ≡ min r (most_rows + 1) = cc in
       rw (← same_refusal n r is) (rw (ne_eqb (blank_refusal s n) 0 bad) refl)
 
-  pub count-taken : (x : Number) (n : ℕ) → Value n ≡ capped x → blank_refusal s n ≡ 0 → rows_into t n (blank_of s n) 0 (next_of 10 t 0) ≡ count_into t s x
+  pub count-taken : (x : Option ℕ) (n : ℕ) → Some n ≡ capped x → blank_refusal s n ≡ 0 → rows_into t n (blank_of s n) 0 (next_of 10 t 0) ≡ count_into t s x
   unfolding capped count_into
-  count-taken Not n e good = let z : ◌≡◌ {A = ℕ} 0 1 = cc in absurd (omega arith)
-  count-taken (Value r) n e good =
+  count-taken None n e good = let z : ◌≡◌ {A = ℕ} 0 1 = cc in absurd (omega arith)
+  count-taken (Some r) n e good =
       let is : n ≡ min r (most_rows + 1) = cc in
       let few : r ≤ most_rows = (makeable s r (sym (same_refusal n r is) ∙ good)).0 in
       let same : n ≡ r = is ∙ min-eq_left (omega arith) in
@@ -52,7 +51,7 @@ module _ (t s : List ℕ) where
   left_alone n bad = rw (ne_eqb (blank_refusal s n) 0 bad) refl
 
 -- and what is cut is never far beyond the most
-pub cut_most : (x : Number) (n : ℕ) → Value n ≡ capped x → n ≤ most_rows + 1
+pub cut_most : (x : Option ℕ) (n : ℕ) → Some n ≡ capped x → n ≤ most_rows + 1
 unfolding capped
-cut_most Not n e = let z : ◌≡◌ {A = ℕ} 0 1 = cc in absurd (omega arith)
-cut_most (Value r) n e = let is : n ≡ min r (most_rows + 1) = cc in rw is (min-le_right r (most_rows + 1))
+cut_most None n e = let z : ◌≡◌ {A = ℕ} 0 1 = cc in absurd (omega arith)
+cut_most (Some r) n e = let is : n ≡ min r (most_rows + 1) = cc in rw is (min-le_right r (most_rows + 1))

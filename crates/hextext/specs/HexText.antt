@@ -1,8 +1,6 @@
 -- Hex text read into a lent sheet (02, [10]): the row count, then a line a row, each worked out again. Definitions only.
-use Rattle.std.specs.Prelude.{ℕ, zero, suc, ◌+◌, min, not, ◌&&◌, List, length, get_or, ltb, leb, eqb}
+use Rattle.std.specs.Prelude.{ℕ, zero, suc, ◌+◌, min, not, ◌&&◌, Option, Some, None, List, length, get_or, ltb, leb, eqb}
 use Rattle.laws.specs.Ladder.{when◌gives◌else◌}
-use Rattle.line.specs.declared.Number.{Number}
-use Rattle.line.specs.declared.Number.TheVariants.{Value, Not}
 use Rattle.line.specs.Line.{spell_of}
 use Rattle.ledger.specs.Bytes.{pattern_at}
 use Rattle.ledger.specs.Sheet.{withdrawn, most_rows, refusal_in}
@@ -28,21 +26,25 @@ fine = halt_at 0 0 0
 abbrev pub entry_of : List ℕ → Entry
 entry_of l = record { function = value_in l 0; a = value_in l 1; b = value_in l 2; c = value_in l 3; times = value_in l 4 }
 
--- the column of the first of refusal and answers that is not the one worked out; 0 where all are
-unfoldable pub differ_of : List ℕ → ℕ
+-- the column of the first of refusal and answers that is not the one worked out
+unfoldable pub differ_of : List ℕ → Option ℕ
 differ_of l =
-    when not (eqb (refusal_in (row_of (entry_of l))) (value_in l 5)) gives column_of l 5 else
-    when not (eqb (pattern_at (row_of (entry_of l)) 32) (value_in l 6)) gives column_of l 6 else
-    when not (eqb (pattern_at (row_of (entry_of l)) 40) (value_in l 7)) gives column_of l 7 else
-    0
+    when not (eqb (refusal_in (row_of (entry_of l))) (value_in l 5)) gives Some (column_of l 5) else
+    when not (eqb (pattern_at (row_of (entry_of l)) 32) (value_in l 6)) gives Some (column_of l 6) else
+    when not (eqb (pattern_at (row_of (entry_of l)) 40) (value_in l 7)) gives Some (column_of l 7) else
+    None
+
+-- a column where the line is not taken halts it; else it goes on
+unfoldable pub halts_at : ℕ → Option ℕ → Halt → Halt
+halts_at k (Some column) h = halt_at 18 k column
+halts_at k None h = h
 
 -- line k: 18 where it does not read; 22 for the function that goes out; 18 where it says something else than is worked out
 unfoldable pub line_halt : ℕ → List ℕ → Halt
 line_halt k l =
-    when not (eqb (stop_of l) 0) gives halt_at 18 k (stop_of l) else
-    when eqb (value_in l 0) withdrawn gives halt_at 22 k 0 else
-    when not (eqb (differ_of l) 0) gives halt_at 18 k (differ_of l) else
-    fine
+    halts_at k (stop_of l)
+    (when eqb (value_in l 0) withdrawn gives halt_at 22 k 0 else
+    halts_at k (differ_of l) fine)
 
 -- ---- the text
 
@@ -71,16 +73,16 @@ rows_into t (suc k) s i at =
     rows_into t k (line_into t s i at).sheet (i + 1) (next_of 10 t at)
 
 -- the row count: decimal digits, however many, and no zero in front of others
-unfoldable pub count_of : List ℕ → Number
+unfoldable pub count_of : List ℕ → Option ℕ
 count_of l =
-    when eqb (length l) 0 gives Not else
-    when ltb 1 (length l) && eqb (get_or l 0 0) 48 gives Not else
+    when eqb (length l) 0 gives None else
+    when ltb 1 (length l) && eqb (get_or l 0 0) 48 gives None else
     spell_of 10 0 l
 
 -- "11 as in 01"; 7 where the lent sheet has another length
-unfoldable pub count_into : List ℕ → List ℕ → Number → Came
-count_into t s Not = came s (halt_at 18 1 1)
-count_into t s (Value r) =
+unfoldable pub count_into : List ℕ → List ℕ → Option ℕ → Came
+count_into t s None = came s (halt_at 18 1 1)
+count_into t s (Some r) =
     when not (eqb (blank_refusal s r) 0) gives came s (halt_at (blank_refusal s r) 0 0) else
     rows_into t r (blank_of s r) 0 (next_of 10 t 0)
 
@@ -89,6 +91,6 @@ unfoldable pub text_into : List ℕ → List ℕ → Came
 text_into t s = count_into t s (count_of (part_at 10 t 0))
 
 -- what the code holds of a count: all above 1,024 are one
-unfoldable pub capped : Number → Number
-capped Not = Not
-capped (Value n) = Value (min n (most_rows + 1))
+unfoldable pub capped : Option ℕ → Option ℕ
+capped None = None
+capped (Some n) = Some (min n (most_rows + 1))

@@ -1,48 +1,37 @@
 // The row count.
-ghost use Rattle.std.specs.Prelude.{◌≡◌, min};
+ghost use Rattle.std.specs.Prelude.{◌≡◌};
 ghost use Rattle.line.specs.Line.{spell_of};
 ghost use Rattle.hexline.specs.Parts.{part_at};
 ghost use Rattle.hextext.specs.HexText.{count_of, capped};
 
 use hexline::part;
-use line::{Number, digit};
+use line::digit;
 
 // One more than the largest sheet's rows stands for all that are more.
 const TOO_MANY: u64 = 1025;
 
-fn cut(n: u64) -> u64
-    ensures { result ≡ min n 1025 }
-{
-    if TOO_MANY < n { TOO_MANY } else { n }
-}
-
 // Decimal digits, however many.
-fn digits(s: &[u8]) -> Number
+fn digits(s: &[u8]) -> Option<u64>
     ensures { result ≡ capped (spell_of 10 0 s.now) }
 {
     let mut n: u64 = 0;
-    let mut i: usize = 0;
-    while i < s.len() {
-        let d = digit(s[i]);
+    for b in s {
+        let d = digit(*b)?;
         if 10 <= d {
-            return Number::Not;
+            return None;
         }
-        n = cut(n * 10 + d);
-        i += 1;
+        n = (n * 10 + d).min(TOO_MANY);
     }
-    Number::Value(n)
+    Some(n)
 }
 
 // How many rows the text says that it has; 1,025 where it is more.
-pub fn rows(text: &[u8]) -> Number
+pub fn rows(text: &[u8]) -> Option<u64>
     ensures { result ≡ capped (count_of (part_at 10 text.now 0)) }
 {
-    let s = part(10, text, 0);
-    if s.len() == 0 {
-        return Number::Not;
+    let s = part(b'\n', text, 0);
+    match s {
+        [] | [b'0', _, ..] => None,
+        _ => digits(s),
     }
-    if (1 < s.len()) & (s[0] == 48) {
-        return Number::Not;
-    }
-    digits(s)
 }

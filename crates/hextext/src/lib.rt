@@ -11,7 +11,6 @@ ghost use Rattle.hextext.specs.HexText.{halt_at, came, line_into, rows_into, tex
 
 pub use count::rows;
 use hexline::{next, part};
-use line::Number;
 use row::{entry, line_halt};
 
 // Why and where reading halted: the refusal, the line and the column, both from 1; 0 where there is none.
@@ -74,7 +73,7 @@ fn read_rows(sheet: &mut [u8], text: &[u8], rows: u32, from: usize) -> Halt
 pub fn read_text(sheet: &mut [u8], text: &[u8]) -> Halt
     ensures { came sheet.new result ≡ text_into text.now sheet.old }
 {
-    let Number::Value(n) = rows(text) else {
+    let Some(n) = rows(text) else {
         return halted(18, 1, 1);
     };
     let refusal = ledger::make_blank(sheet, n as u32);

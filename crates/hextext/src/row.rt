@@ -37,36 +37,34 @@ fn word_of(words: [u64; 6], k: usize) -> u64
     words[k]
 }
 
-// The column of the first of refusal and answers that is not the one worked out; 0 where all are.
-fn differ(line: &[u8]) -> usize
+// The column of the first of refusal and answers that is not the one worked out.
+fn differ(line: &[u8]) -> Option<usize>
     ensures { result ≡ differ_of line.now }
 {
     let words = sheet::words(entry(line));
     if refusal_of(words) != value(line, 5) {
-        return column(line, 5);
+        return Some(column(line, 5));
     }
     if word_of(words, 4) != value(line, 6) {
-        return column(line, 6);
+        return Some(column(line, 6));
     }
     if word_of(words, 5) != value(line, 7) {
-        return column(line, 7);
+        return Some(column(line, 7));
     }
-    0
+    None
 }
 
 // Why line k is not taken; refusal 0 where it is.
 pub(crate) fn line_halt(k: u32, line: &[u8]) -> Halt
     ensures { result ≡ line_halt k line.now }
 {
-    let at = stop(line);
-    if at != 0 {
+    if let Some(at) = stop(line) {
         return halted(18, k, at);
     }
     if value(line, 0) == WITHDRAWN {
         return halted(22, k, 0);
     }
-    let at = differ(line);
-    if at != 0 {
+    if let Some(at) = differ(line) {
         return halted(18, k, at);
     }
     halted(0, 0, 0)

@@ -11,16 +11,15 @@ use lib.Seq.{get_or-drop, drop-drop}
 use lib.Dec.{eqb}
 use borrow.Author.Tests.{ne_eqb, eqb-false}
 use Rattle.laws.specs.Ladder.{held, passed}
-use Rattle.line.specs.declared.Number.{Number}
-use Rattle.line.specs.declared.Line.{Line}
-use Rattle.line.specs.declared.Line.TheVariants.{Malformed}
+use Rattle.std.specs.Prelude.{Option, None}
+use Rattle.line.specs.declared.Edit.{Edit}
 use Rattle.line.specs.Line.{fields_of, edit_from, line_of}
 use Rattle.line.specs.laws.Long.{some_field, no_times, decimal-none}
 use Rattle.line.specs.Reading.{number_of, fields_from, Taken}
 use Rattle.line.proofs.Parts.{none_from, fields_from_lem}
 
 -- the field number k was taken: it is the line's, and the others follow
-module _ (s : List ℕ) {from base next : ℕ} {v : Number} (k : ℕ) (t : Taken s from base v next) (at : fields_from s from ≡ drop k (fields_of s)) where
+module _ (s : List ℕ) {from base next : ℕ} {v : Option ℕ} (k : ℕ) (t : Taken s from base v next) (at : fields_from s from ≡ drop k (fields_of s)) where
   is_field : v ≡ number_of base (get_or (fields_of s) k [])
   is_field = t.first ∙ ap (number_of base) (rw at (get_or-drop k (fields_of s) 0 [] ∙ rw add-zero refl))
 
@@ -29,7 +28,7 @@ module _ (s : List ℕ) {from base next : ℕ} {v : Number} (k : ℕ) (t : Taken
 
 -- six fields taken one after the other, and what is left
 module _
-    (s : List ℕ) {row function a b c times : Number} {n₁ n₂ n₃ n₄ n₅ n₆ : ℕ} (t₁ : Taken s 0 10 row n₁) (t₂ : Taken s n₁ 10 function n₂) (t₃ : Taken s n₂ 16 a n₃)
+    (s : List ℕ) {row function a b c times : Option ℕ} {n₁ n₂ n₃ n₄ n₅ n₆ : ℕ} (t₁ : Taken s 0 10 row n₁) (t₂ : Taken s n₁ 10 function n₂) (t₃ : Taken s n₂ 16 a n₃)
     (t₄ : Taken s n₃ 16 b n₄) (t₅ : Taken s n₄ 16 c n₅) (t₆ : Taken s n₅ 10 times n₆) where
   at₀ : fields_from s 0 ≡ drop 0 (fields_of s)
   at₀ = fields_from_lem s 0 (omega arith)
@@ -53,7 +52,7 @@ module _
   at₆ = then s 5 t₆ at₅
 
   -- there are more
-  pub too_many : n₆ ≤ length s → Malformed ≡ line_of s
+  pub too_many : n₆ ≤ length s → None ≡ line_of s
   unfolding line_of
   too_many h =
       let some = some_field (drop n₆ s) in
@@ -61,7 +60,7 @@ module _
       passed _ _ (ne_eqb (length (fields_of s)) 6 (λ six. omega (arith, length-drop 6 (fields_of s)))) refl
 
   -- there are no more; a missing one is no number
-  pub just_six : {l : Line} → length s < n₆ → l ≡ edit_from row function a b c times → l ≡ line_of s
+  pub just_six : {l : Option Edit} → length s < n₆ → l ≡ edit_from row function a b c times → l ≡ line_of s
   unfolding line_of number_of
   just_six {l} h e = by (eqb (length (fields_of s)) 6) refl where
     by : (t : Bool) → eqb (length (fields_of s)) 6 ≡ t → l ≡ line_of s

@@ -1,3 +1,4 @@
 pub mod Spelling
+pub mod Fitting
 pub mod Parts
 pub mod Edits

@@ -1,31 +1,32 @@
 -- A line's fields, from its front. Assumes nothing.
-use mathlib.Core.Path.{◌≡◌, refl, sym, ◌∙◌}
+use mathlib.Core.Path.{◌≡◌, refl, sym, ap, ◌∙◌}
 use Prim.Native.Nat.{ℕ, suc, ◌+◌, ◌-◌, ◌≤◌, ◌<◌}
 use native.Mathlib.Numerals.{add-one}
 use native.Mathlib.Omega.{arith}
-use mathlib.Core.Bool.{Bool, true, false, cond}
+use mathlib.Core.Bool.{Bool, true, false, cond, not}
 use mathlib.Core.List.{List, [], ◌∷◌}
-use lib.ListN.{length, take, drop, get_or, length-drop, drop_of_length-le}
+use lib.ListN.{length, take, drop, length-drop, drop_of_length-le}
 use lib.Seq.{drop-cons, drop-drop, take_all}
+use Rattle.std.specs.Option.{unwrap_or}
+use Rattle.std.specs.List.{position, position_or_len}
+use Rattle.std.proofs.lemmas.Bool.Decides.{nat_tests}
+use Rattle.std.proofs.lemmas.List.Sums.{prefix_len-le-length}
+use Rattle.std.proofs.lemmas.List.Recursion.{is_position_or_len}
 use lib.Dec.{ltb, eqb}
-use borrow.Author.Tests.{lt-ltb, le-ltb, eq-eqb, ne_eqb, ltb-true, ltb-false}
+use borrow.Author.Tests.{lt-ltb, le-ltb, ltb-true, ltb-false}
 use Rattle.line.specs.Line.{onto, cut, fields_of}
-use Rattle.line.specs.declared.Number.{Number}
+use Rattle.std.specs.Prelude.{Option}
 use Rattle.line.specs.Reading.{word_of, number_of, fields_from, Taken}
 
 -- ---- the first space
 
-pub word_ends : (s : List ℕ) (i : ℕ) → i < length s → get_or s i 0 ≡ 32 → word_of (drop i s) ≡ 0
-unfolding word_of
-word_ends s i h e = rw (drop-cons s i 0 h) (simp (eq-eqb (get_or s i 0) 32 e))
+-- the first place that passes, or the end
+pub first_or_end : (p : ℕ → Bool) (s : List ℕ) → unwrap_or (position p s) (length s) ≡ position_or_len p s
+first_or_end p s = let small = prefix_len-le-length (λ x. not (p x)) s in grind (arith, nat_tests)
 
-pub word_goes_on : (s : List ℕ) (i : ℕ) → i < length s → (get_or s i 0 ≡ 32 → ⊥) → word_of (drop i s) ≡ suc (word_of (drop (i + 1) s))
+pub word_is : (s : List ℕ) → unwrap_or (position (λ b. eqb b 32) s) (length s) ≡ word_of s
 unfolding word_of
-word_goes_on s i h e = rw add-one (rw (drop-cons s i 0 h) (simp (ne_eqb (get_or s i 0) 32 e)))
-
-pub word_done : (s : List ℕ) (i : ℕ) → length s ≤ i → word_of (drop i s) ≡ 0
-unfolding word_of
-word_done s i h = rw (drop_of_length-le s h) refl
+word_is s = first_or_end (λ b. eqb b 32) s ∙ sym (is_position_or_len word_of (λ x. eqb x 32) (omega arith) (λ x xs. ap (λ (n : ℕ). cond (eqb x 32) 0 n) (omega arith)) s)
 
 -- ---- the first field and the others
 
@@ -73,13 +74,13 @@ rest_part t j = take_all (length t - j) (drop j t) (simp length-drop (omega arit
 -- ---- one field read
 
 -- past the end: an empty field, and none after it
-pub taken_none : (s : List ℕ) (from base : ℕ) (v : Number) → length s < from → v ≡ number_of base [] → Taken s from base v from
+pub taken_none : (s : List ℕ) (from base : ℕ) (v : Option ℕ) → length s < from → v ≡ number_of base [] → Taken s from base v from
 taken_none s from base v h e =
     let f : fields_from s from ≡ [] = none_from s from h in
     record { first = rw f e; others = rw f refl }
 
 -- n bytes up to a space or the end
-pub taken-one : (s : List ℕ) (from base n : ℕ) (v : Number) → from ≤ length s → n ≡ word_of (drop from s) → v ≡ number_of base (take n (drop from s))
+pub taken-one : (s : List ℕ) (from base n : ℕ) (v : Option ℕ) → from ≤ length s → n ≡ word_of (drop from s) → v ≡ number_of base (take n (drop from s))
     → Taken s from base v (from + n + 1)
 taken-one s from base n v h en ev =
     let f : fields_from s from ≡ take n (drop from s) ∷ after (drop n (drop from s)) =

@@ -7,21 +7,35 @@ use native.Mathlib.Omega.{arith}
 use mathlib.Core.List.{List}
 use lib.ListN.{length, drop, get_or, drop_of_length-le}
 use lib.Seq.{drop-cons}
+use Rattle.std.specs.Prelude.{Some, None}
+use Rattle.std.proofs.lemmas.Bool.Decides.{nat_tests}
 use lib.Dec.{lit≤}
 use borrow.Author.Tests.{lt-ltb, le-ltb}
-use Rattle.line.specs.declared.Number.TheVariants.{Value, Not}
-use Rattle.line.specs.Line.{digit_of, spell_of}
+use Rattle.line.specs.Line.{digit_of, digit_value, spell_of}
 
-module _ (base n d : ℕ) (s : List ℕ) (i : ℕ) (within : i < length s) (is : d ≡ digit_of (get_or s i 0)) where
-  pub no_digit : base ≤ d → spell_of base n (drop i s) ≡ Not
+-- a byte that is a digit is worth what it is worth; one that is none is worth 16
+worth : (b d : ℕ) → Some d ≡ digit_value b → d ≡ digit_of b
+unfolding digit_value
+worth b d e = grind (arith, nat_tests)
+
+worthless : (b : ℕ) → None ≡ digit_value b → 16 ≤ digit_of b
+unfolding digit_value
+worthless b e = grind (arith, nat_tests)
+
+module _ (base n d : ℕ) (s : List ℕ) (i : ℕ) (within : i < length s) (is : Some d ≡ digit_value (get_or s i 0)) where
+  pub no_digit : base ≤ d → spell_of base n (drop i s) ≡ None
   unfolding spell_of
-  no_digit h = rw (drop-cons s i 0 within) (rw (← is) (simp (le-ltb d base h)))
+  no_digit h = rw (drop-cons s i 0 within) (rw (← worth _ _ is) (simp (le-ltb d base h)))
 
   pub one_more_lem : d < base → spell_of base n (drop i s) ≡ spell_of base (n * base + d) (drop (i + 1) s)
   unfolding spell_of
-  one_more_lem h = rw add-one (rw (drop-cons s i 0 within) (rw (← is) (simp (lt-ltb d base h))))
+  one_more_lem h = rw add-one (rw (drop-cons s i 0 within) (rw (← worth _ _ is) (simp (lt-ltb d base h))))
 
-pub no_more : (base n : ℕ) (s : List ℕ) (i : ℕ) → length s ≤ i → spell_of base n (drop i s) ≡ Value n
+pub not_one : (base n : ℕ) (s : List ℕ) (i : ℕ) → i < length s → base ≤ 16 → None ≡ digit_value (get_or s i 0) → spell_of base n (drop i s) ≡ None
+unfolding spell_of
+not_one base n s i within small none = rw (drop-cons s i 0 within) (simp (le-ltb (digit_of (get_or s i 0)) base (le_trans small (worthless _ none))))
+
+pub no_more : (base n : ℕ) (s : List ℕ) (i : ℕ) → length s ≤ i → spell_of base n (drop i s) ≡ Some n
 unfolding spell_of
 no_more base n s i h = rw (drop_of_length-le s h) refl
 

@@ -1,7 +1,6 @@
 -- How a line is read, field by field: what the contracts inside the crate cite. Definitions only.
-use Rattle.std.specs.Prelude.{ℕ, suc, ◌≡◌, List, [], ◌∷◌, length, drop, get_or, ltb, eqb}
+use Rattle.std.specs.Prelude.{ℕ, suc, ◌≡◌, Option, List, [], ◌∷◌, length, drop, get_or, ltb, eqb}
 use Rattle.laws.specs.Ladder.{when◌gives◌else◌}
-use Rattle.line.specs.declared.Number.{Number}
 use Rattle.line.specs.Line.{decimal_of, pattern_of, fields_of}
 
 -- how many bytes stand before the first space
@@ -12,7 +11,7 @@ word_of (x ∷ xs) =
     suc (word_of xs)
 
 -- a field's number: decimal in base 10, a bit pattern in any other
-unfoldable pub number_of : ℕ → List ℕ → Number
+unfoldable pub number_of : ℕ → List ℕ → Option ℕ
 number_of base s =
     when eqb base 10 gives decimal_of s else
     pattern_of s
@@ -24,6 +23,6 @@ fields_from s from =
     fields_of (drop from s)
 
 -- the first field from a place on was read, a missing one as an empty one, and the others follow at next
-pub record Taken (s : List ℕ) (from base : ℕ) (number : Number) (next : ℕ) : Type 0 where
+pub record Taken (s : List ℕ) (from base : ℕ) (number : Option ℕ) (next : ℕ) : Type 0 where
   pub first : number ≡ number_of base (get_or (fields_from s from) 0 [])
   pub others : fields_from s next ≡ drop 1 (fields_from s from)

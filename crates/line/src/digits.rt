@@ -1,78 +1,58 @@
 // A number's digits: decimal, or a bit pattern in 16 digits.
 ghost use Rattle.std.specs.Prelude.{◌≡◌};
-ghost use Rattle.line.specs.Line.{digit_of, few_of, decimal_of, pattern_of};
+ghost use Rattle.line.specs.Line.{digit_value, few_of, decimal_of, pattern_of};
 
-use crate::Number;
-
-fn wide(b: u8) -> u64
-    ensures { result ≡ b }
+// What a digit is worth, '0' to '9' and 'a' to 'f'.
+pub fn digit(b: u8) -> Option<u64>
+    ensures { result ≡ digit_value b }
 {
-    b as u64
-}
-
-// What a digit is worth, '0' to '9' and 'a' to 'f'; 16 for any other byte.
-pub fn digit(b: u8) -> u64
-    ensures { result ≡ digit_of b }
-{
-    if b < 48 {
-        return 16;
+    match b {
+        b'0'..=b'9' => Some(u64::from(b - b'0')),
+        b'a'..=b'f' => Some(u64::from(b - b'a') + 10),
+        _ => None,
     }
-    if b < 58 {
-        return wide(b) - 48;
-    }
-    if b < 97 {
-        return 16;
-    }
-    if b < 103 {
-        return wide(b) - 87;
-    }
-    16
 }
 
 // Up to 16 digits of a base up to 16: their number fits, so nothing wraps.
-pub fn read_digits(s: &[u8], base: u64) -> Number
+pub fn read_digits(s: &[u8], base: u64) -> Option<u64>
     ensures { result ≡ few_of base s.now }
 {
     if 16 < base {
-        return Number::Not;
+        return None;
     }
     if 16 < s.len() {
-        return Number::Not;
+        return None;
     }
     let mut n: u64 = 0;
-    let mut i: usize = 0;
-    while i < s.len() {
-        let d = digit(s[i]);
+    for b in s {
+        let d = digit(*b)?;
         if base <= d {
-            return Number::Not;
+            return None;
         }
         n = n * base + d;
-        i += 1;
     }
-    Number::Value(n)
+    Some(n)
 }
 
 // A decimal number of one to ten digits, no zero in front of others.
-pub fn decimal(s: &[u8]) -> Number
+pub fn decimal(s: &[u8]) -> Option<u64>
     ensures { result ≡ decimal_of s.now }
 {
-    if s.len() == 0 {
-        return Number::Not;
+    if s.len() > 10 {
+        return None;
     }
-    if 10 < s.len() {
-        return Number::Not;
+    match s {
+        [] | [b'0', _, ..] => None,
+        _ => read_digits(s, 10),
     }
-    if (1 < s.len()) & (s[0] == 48) {
-        return Number::Not;
-    }
-    read_digits(s, 10)
 }
 
-pub(crate) fn pattern(s: &[u8]) -> Number
+// A bit pattern: 16 digits.
+pub fn pattern(s: &[u8]) -> Option<u64>
     ensures { result ≡ pattern_of s.now }
 {
-    if s.len() == 16 {
-        return read_digits(s, 16);
+    if s.len() != 16 {
+        return None;
     }
-    Number::Not
+    read_digits(s, 16)
 }

@@ -7,78 +7,51 @@ mod fields;
 ghost use Rattle.std.specs.Prelude.{◌≡◌};
 ghost use Rattle.line.specs.Line.{edit_from, line_of};
 
-pub use digits::{decimal, digit, read_digits};
+pub use digits::{decimal, digit, pattern, read_digits};
 use fields::field;
 
 // The longest line that can be well formed: three numbers of ten digits, three patterns, five spaces.
 pub const LONGEST: usize = 83;
 
+// The row and what is entered in it: a function, its arguments, and how often the leg was driven.
 #[derive(Clone, Copy)]
-pub enum Number {
-    Value(u64),
-    Not,
-}
-
-#[derive(Clone, Copy)]
-pub enum Line {
-    Edit {
-        row: u32,
-        function: u8,
-        a: u64,
-        b: u64,
-        c: u64,
-        times: u16,
-    },
-    Malformed,
+pub struct Edit {
+    pub row: u32,
+    pub function: u8,
+    pub a: u64,
+    pub b: u64,
+    pub c: u64,
+    pub times: u16,
 }
 
 // Six numbers as an edit: one that is none, or does not fit, makes it malformed.
-fn edit_from(row: Number, function: Number, a: Number, b: Number, c: Number, times: Number) -> Line
+fn edit_from(
+    row: Option<u64>,
+    function: Option<u64>,
+    a: Option<u64>,
+    b: Option<u64>,
+    c: Option<u64>,
+    times: Option<u64>,
+) -> Option<Edit>
     ensures { result ≡ edit_from row function a b c times }
 {
-    let Number::Value(row) = row else {
-        return Line::Malformed;
-    };
-    let Number::Value(function) = function else {
-        return Line::Malformed;
-    };
-    let Number::Value(a) = a else {
-        return Line::Malformed;
-    };
-    let Number::Value(b) = b else {
-        return Line::Malformed;
-    };
-    let Number::Value(c) = c else {
-        return Line::Malformed;
-    };
-    let Number::Value(times) = times else {
-        return Line::Malformed;
-    };
-    if 0x1_0000_0000 <= row {
-        return Line::Malformed;
-    }
-    if 0x100 <= function {
-        return Line::Malformed;
-    }
-    if 0x1_0000 <= times {
-        return Line::Malformed;
-    }
-    Line::Edit {
-        row: row as u32,
-        function: function as u8,
+    let (row, function, a, b, c, times) = (row?, function?, a?, b?, c?, times?);
+    Some(Edit {
+        row: u32::try_from(row).ok()?,
+        function: u8::try_from(function).ok()?,
         a,
         b,
         c,
-        times: times as u16,
-    }
+        times: u16::try_from(times).ok()?,
+    })
 }
 
-// An edit.
-pub fn read_edit(s: &[u8]) -> Line
+// An edit; none where the line is malformed.
+pub fn read_edit(s: &[u8]) -> Option<Edit>
     ensures { result ≡ line_of s.now }
 {
     if LONGEST < s.len() {
-        return Line::Malformed;
+        return None;
     }
     let row = field(s, 0, 10);
     let function = field(s, row.next, 10);
@@ -87,13 +60,14 @@ pub fn read_edit(s: &[u8]) -> Line
     let c = field(s, b.next, 16);
     let times = field(s, c.next, 10);
     if times.next <= s.len() {
-        return Line::Malformed;
+        return None;
     }
-    let row = row.number;
-    let function = function.number;
-    let a = a.number;
-    let b = b.number;
-    let c = c.number;
-    let times = times.number;
-    edit_from(row, function, a, b, c, times)
+    edit_from(
+        row.number,
+        function.number,
+        a.number,
+        b.number,
+        c.number,
+        times.number,
+    )
 }

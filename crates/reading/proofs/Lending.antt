@@ -4,32 +4,31 @@ use Prim.Native.Nat.{ℕ, ◌+◌, ◌≤◌, ◌<◌, min}
 use native.Mathlib.Nat.{min-eq_left, min-eq_right}
 use native.Mathlib.Omega.{arith}
 use borrow.Author.Tests.{lt-ltb, le-ltb}
-use Rattle.line.specs.declared.Number.{Number}
-use Rattle.line.specs.declared.Number.TheVariants.{Value, Not}
+use Rattle.std.specs.Prelude.{Option, Some, None}
 use Rattle.line.specs.laws.Long.{below}
 use Rattle.ledger.specs.Sheet.{most_rows, size_for}
 use Rattle.page.specs.Page.{largest}
 use Rattle.hextext.specs.HexText.{capped}
 use Rattle.reading.specs.Taken.{lent_for}
 
-pub lent_none : (x : Number) → Not ≡ capped x → 0 ≡ lent_for x
+pub lent_none : (x : Option ℕ) → None ≡ capped x → 0 ≡ lent_for x
 unfolding capped lent_for
-lent_none Not e = refl
-lent_none (Value r) e = let z : ◌≡◌ {A = ℕ} 0 1 = cc in absurd (omega arith)
+lent_none None e = refl
+lent_none (Some r) e = let z : ◌≡◌ {A = ℕ} 0 1 = cc in absurd (omega arith)
 
-pub lent_many : (x : Number) (n : ℕ) → Value n ≡ capped x → most_rows < n → 0 ≡ lent_for x
+pub lent_many : (x : Option ℕ) (n : ℕ) → Some n ≡ capped x → most_rows < n → 0 ≡ lent_for x
 unfolding capped lent_for
-lent_many Not n e more = let z : ◌≡◌ {A = ℕ} 0 1 = cc in absurd (omega arith)
-lent_many (Value r) n e more =
+lent_many None n e more = let z : ◌≡◌ {A = ℕ} 0 1 = cc in absurd (omega arith)
+lent_many (Some r) n e more =
     let is : n ≡ min r (most_rows + 1) = cc in
     below r 1025
     (λ less. absurd (let same : n ≡ r = is ∙ min-eq_left (omega arith) in omega arith))
     (λ many. rw (lt-ltb most_rows r (omega arith)) refl)
 
-pub lent_sheet : (x : Number) (n : ℕ) → Value n ≡ capped x → n ≤ most_rows → size_for n ≡ lent_for x
+pub lent_sheet : (x : Option ℕ) (n : ℕ) → Some n ≡ capped x → n ≤ most_rows → size_for n ≡ lent_for x
 unfolding capped lent_for
-lent_sheet Not n e few = let z : ◌≡◌ {A = ℕ} 0 1 = cc in absurd (omega arith)
-lent_sheet (Value r) n e few =
+lent_sheet None n e few = let z : ◌≡◌ {A = ℕ} 0 1 = cc in absurd (omega arith)
+lent_sheet (Some r) n e few =
     let is : n ≡ min r (most_rows + 1) = cc in
     below r 1025
     (λ less. let same : n ≡ r = is ∙ min-eq_left (omega arith) in rw (le-ltb most_rows r (omega arith)) (ap size_for same))

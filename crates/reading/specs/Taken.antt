@@ -1,9 +1,7 @@
 -- Hex text read into a sheet file (02, [10]): what is said, and what is then in the file. Definitions only.
-use Rattle.std.specs.Prelude.{◌≡◌, ℕ, true, false, ◌&&◌, List, ◌++◌, ltb, leb, eqb, ℤ, length, replicate}
+use Rattle.std.specs.Prelude.{◌≡◌, ℕ, true, false, ◌&&◌, Option, Some, None, List, ◌++◌, ltb, leb, eqb, ℤ, length, replicate}
 use Rattle.laws.specs.Ascii.{ascii}
 use Rattle.laws.specs.Ladder.{when◌gives◌else◌}
-use Rattle.line.specs.declared.Number.{Number}
-use Rattle.line.specs.declared.Number.TheVariants.{Value, Not}
 use Rattle.line.specs.Line.{line_ends}
 use Rattle.text.specs.Text.{decimal, end}
 use Rattle.ledger.specs.Sheet.{most_rows, size_for}
@@ -26,9 +24,9 @@ abbrev pub most_text : ℕ
 most_text = 290822
 
 -- the bytes of the sheet that the count asks for; none where there is no such sheet
-unfoldable pub lent_for : Number → ℕ
-lent_for Not = 0
-lent_for (Value r) =
+unfoldable pub lent_for : Option ℕ → ℕ
+lent_for None = 0
+lent_for (Some r) =
     when ltb most_rows r gives 0 else
     size_for r
 

@@ -15,7 +15,6 @@ ghost use Rattle.reading.specs.Taken.{lent_for, taken_of, end_of, Readable, Answ
 use ends::line_ends;
 use files::{Output, Source, WORD};
 use hextext::Halt;
-use line::Number;
 use loading::put_number;
 use page::LARGEST;
 use saying::put_halt;
@@ -27,7 +26,7 @@ pub const MOST_TEXT: usize = 290822;
 fn lent(text: &[u8]) -> usize
     ensures { (result ≡ lent_for (count_of (part_at 10 text.now 0))) × (result ≤ largest) }
 {
-    let Number::Value(n) = hextext::rows(text) else {
+    let Some(n) = hextext::rows(text) else {
         return 0;
     };
     if n > 1024 {

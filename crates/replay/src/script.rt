@@ -1,7 +1,6 @@
 // A line of the script (oracle/sheet_model.py): a letter, then fields of hex digits, one space apart.
 ghost use Rattle.std.specs.Prelude.{◌+◌, ◌≤◌, length};
 
-use line::Number;
 
 // So many hex digits from a place on; 0 where the line has not so many there, or one is none.
 pub(crate) fn hex(s: &[u8], from: usize, count: usize) -> u64
@@ -11,7 +10,7 @@ pub(crate) fn hex(s: &[u8], from: usize, count: usize) -> u64
     if s.len() < to {
         return 0;
     }
-    let Number::Value(x) = line::read_digits(&s[from..to], 16) else {
+    let Some(x) = line::read_digits(&s[from..to], 16) else {
         return 0;
     };
     x
@@ -47,7 +46,7 @@ fn field(s: &[u8], at: usize, count: usize) -> bool
     if s[at] != b' ' {
         return false;
     }
-    let Number::Value(x) = line::read_digits(&s[from..to], 16) else {
+    let Some(x) = line::read_digits(&s[from..to], 16) else {
         return false;
     };
     true
@@ -92,7 +91,7 @@ fn is_byte(s: &[u8], at: usize, b: u8) -> bool
     if s.len() < to {
         return false;
     }
-    let Number::Value(x) = line::read_digits(&s[at..to], 16) else {
+    let Some(x) = line::read_digits(&s[at..to], 16) else {
         return false;
     };
     x == b as u64

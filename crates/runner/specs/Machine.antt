@@ -1,10 +1,7 @@
 -- The run byte by byte, in lent memory, from any state: what the code does. Definitions only.
-use Rattle.std.specs.Prelude.{◌≡◌, ℕ, ◌+◌, ◌%◌, ◌^◌, ◌≤◌, Bool, true, false, not, ◌&&◌, List, [], ◌∷◌, ◌++◌, length, take, drop, ◌==◌, nat_eq, nat_lt, slice_set}
+use Rattle.std.specs.Prelude.{◌≡◌, ℕ, ◌+◌, ◌%◌, ◌^◌, ◌≤◌, Bool, true, false, not, ◌&&◌, Option, Some, None, List, [], ◌∷◌, ◌++◌, length, take, drop, ◌==◌, nat_eq, nat_lt, slice_set}
 use Rattle.laws.specs.Ladder.{when◌gives◌else◌}
-use Rattle.line.specs.declared.Number.{Number}
-use Rattle.line.specs.declared.Number.TheVariants.{Value, Not}
-use Rattle.line.specs.declared.Line.{Line}
-use Rattle.line.specs.declared.Line.TheVariants.{Edit, Malformed}
+use Rattle.line.specs.declared.Edit.{Edit}
 use Rattle.line.specs.Line.{decimal_of, line_of}
 use Rattle.ledger.specs.Sheet.{size_for, most_rows}
 use Rattle.ledger.specs.Calls.{blank_refusal, blank_of}
@@ -12,7 +9,7 @@ use Rattle.sheet.specs.Edit.{edit_refusal, edit_of}
 use Rattle.page.specs.Page.{largest}
 use Rattle.ending.specs.declared.outcome.State.{State}
 use Rattle.ending.specs.Outcome.{Outcome, Start, Sheet, Bad, ended_of}
-use Rattle.runner.specs.Run.{zeros, entry}
+use Rattle.runner.specs.Run.{zeros, entry_of}
 
 -- ---- what a run holds
 
@@ -48,17 +45,17 @@ unfoldable pub on_part : ℕ → (List ℕ → List ℕ) → List ℕ → List �
 on_part n f m = f (take n m) ++ drop n m
 
 -- the row count, as line k
-unfoldable pub count_line : ℕ → List ℕ → Number → Held
-count_line k m Not = held (between k 0 true) m
-count_line k m (Value r) =
+unfoldable pub count_line : ℕ → List ℕ → Option ℕ → Held
+count_line k m None = held (between k 0 true) m
+count_line k m (Some r) =
     when nat_lt most_rows r gives held (between k 0 true) m else
     held (between k (size_for r) (not (blank_refusal (take (size_for r) m) r == 0))) (on_part (size_for r) (λ s. blank_of s r) m)
 
 -- an edit, as line k
-unfoldable pub edit_line : ℕ → ℕ → List ℕ → Line → Held
-edit_line k n m Malformed = held (between k n true) m
-edit_line k n m (Edit row function a b c times) =
-    held (between k n (not (edit_refusal (take n m) row function == 0))) (on_part n (λ s. edit_of s row (entry function a b c times)) m)
+unfoldable pub edit_line : ℕ → ℕ → List ℕ → Option Edit → Held
+edit_line k n m None = held (between k n true) m
+edit_line k n m (Some e) =
+    held (between k n (not (edit_refusal (take n m) e.row e.function == 0))) (on_part n (λ s. edit_of s e.row (entry_of e)) m)
 
 -- the number of the line that is being read; a run of fewer than 2 ^ 64 bytes never wraps it
 abbrev pub line_number : State → ℕ

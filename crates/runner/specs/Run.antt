@@ -1,10 +1,7 @@
 -- The run as a whole: from the input's bytes to the output's (01, "The program reads standard input"). Definitions only.
-use Rattle.std.specs.Prelude.{ℕ, suc, List, [], ◌∷◌, ◌++◌, replicate, nat_eq, nat_lt}
+use Rattle.std.specs.Prelude.{ℕ, suc, Option, Some, None, List, [], ◌∷◌, ◌++◌, replicate, nat_eq, nat_lt}
 use Rattle.laws.specs.Ladder.{when◌gives◌else◌}
-use Rattle.line.specs.declared.Number.{Number}
-use Rattle.line.specs.declared.Number.TheVariants.{Value, Not}
-use Rattle.line.specs.declared.Line.{Line}
-use Rattle.line.specs.declared.Line.TheVariants.{Edit, Malformed}
+use Rattle.line.specs.declared.Edit.{Edit}
 use Rattle.line.specs.Line.{decimal_of, cut, line_of}
 use Rattle.ledger.specs.Sheet.{size_for, most_rows}
 use Rattle.ledger.specs.Calls.{blank_refusal, blank_of}
@@ -26,9 +23,9 @@ unfoldable pub zeros : ℕ → List ℕ
 zeros n = replicate n 0
 
 -- the row count: a blank sheet, made in zeros; line 1 is bad where there is no number or the call is refused
-unfoldable pub count_on : Number → Outcome
-count_on Not = Bad 1
-count_on (Value r) =
+unfoldable pub count_on : Option ℕ → Outcome
+count_on None = Bad 1
+count_on (Some r) =
     when nat_lt most_rows r gives Bad 1 else
     when nat_eq (blank_refusal (zeros (size_for r)) r) 0 gives Sheet (blank_of (zeros (size_for r)) r) else
     Bad 1
@@ -37,11 +34,14 @@ count_on (Value r) =
 abbrev pub entry : ℕ → ℕ → ℕ → ℕ → ℕ → Entry
 entry f a b c times = record { function = f; a = a; b = b; c = c; times = times }
 
+abbrev pub entry_of : Edit → Entry
+entry_of e = entry e.function e.a e.b e.c e.times
+
 -- an edit of the sheet s, as line k: bad where it is malformed or the call is refused
-unfoldable pub edit_on : ℕ → List ℕ → Line → Outcome
-edit_on k s Malformed = Bad k
-edit_on k s (Edit row function a b c times) =
-    when nat_eq (edit_refusal s row function) 0 gives Sheet (edit_of s row (entry function a b c times)) else
+unfoldable pub edit_on : ℕ → List ℕ → Option Edit → Outcome
+edit_on k s None = Bad k
+edit_on k s (Some e) =
+    when nat_eq (edit_refusal s e.row e.function) 0 gives Sheet (edit_of s e.row (entry_of e)) else
     Bad k
 
 -- one more line, as line k: the first is the row count, and after a bad one nothing more is read

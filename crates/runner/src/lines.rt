@@ -7,7 +7,6 @@ ghost use Rattle.runner.specs.Machine.{between as Machine·between};
 
 use ending::{State, least};
 use ledger::MOST_ROWS;
-use line::{Line, Number};
 use sheet::Entry;
 
 // The state where there is a sheet, after line number lines, with nothing of the next one held.
@@ -28,7 +27,7 @@ fn count_line(k: u64, s: &[u8], sheet: &mut [u8]) -> State
     requires { length sheet.old ≡ largest }
     ensures { held result sheet.new ≡ count_line k sheet.old (decimal_of s.now) }
 {
-    let Number::Value(rows) = line::decimal(s) else {
+    let Some(rows) = line::decimal(s) else {
         return between(k, 0, true);
     };
     if (MOST_ROWS as u64) < rows {
@@ -43,27 +42,19 @@ fn count_line(k: u64, s: &[u8], sheet: &mut [u8]) -> State
 fn edit_line(k: u64, size: usize, s: &[u8], sheet: &mut [u8]) -> State
     ensures { held result sheet.new ≡ edit_line k size sheet.old (line_of s.now) }
 {
-    let Line::Edit {
-        row,
-        function,
-        a,
-        b,
-        c,
-        times,
-    } = line::read_edit(s)
-    else {
+    let Some(edit) = line::read_edit(s) else {
         return between(k, size, true);
     };
     let n = least(size, sheet.len());
     let refusal = sheet::edit(
         &mut sheet[0..n],
-        row,
+        edit.row,
         Entry {
-            function,
-            a,
-            b,
-            c,
-            times,
+            function: edit.function,
+            a: edit.a,
+            b: edit.b,
+            c: edit.c,
+            times: edit.times,
         },
     );
     between(k, size, refusal != 0)

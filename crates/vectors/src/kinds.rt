@@ -6,11 +6,10 @@ ghost use Rattle.std.specs.Prelude.{◌<◌, ◌≤◌};
 use crate::spelling::{float, shaped, word};
 use answer::{Answer, Refusal};
 use carlson::Outcome;
-use line::Number;
 
 // 0, which is no kind, where the text is no number of one.
 pub(crate) fn kind_of(text: &[u8]) -> u8 {
-    let Number::Value(n) = line::decimal(text) else {
+    let Some(n) = line::decimal(text) else {
         return 0;
     };
     if n < 256 {

@@ -1,5 +1,4 @@
 // A list's line: words of 16 lower-case hex digits, one space apart, and a line end.
-use line::Number;
 
 // Whether the line is of this form.
 pub(crate) fn shaped(s: &[u8]) -> bool {
@@ -9,7 +8,7 @@ pub(crate) fn shaped(s: &[u8]) -> bool {
             return false;
         }
         let end = at + 16;
-        let Number::Value(value) = line::read_digits(&s[at..end], 16) else {
+        let Some(value) = line::read_digits(&s[at..end], 16) else {
             return false;
         };
         let mark = if s.len() - end == 1 { b'\n' } else { b' ' };
@@ -29,7 +28,7 @@ pub(crate) fn word(s: &[u8], at: usize) -> u64 {
     if s.len() - 16 < at {
         return 0;
     }
-    let Number::Value(value) = line::read_digits(&s[at..at + 16], 16) else {
+    let Some(value) = line::read_digits(&s[at..at + 16], 16) else {
         return 0;
     };
     value

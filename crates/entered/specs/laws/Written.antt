@@ -1,9 +1,8 @@
 -- What is written is read: the spelling of any edit is a line that says it. So no reader that refuses all lines, or takes some other number, meets `line_of`. Assumes nothing.
-use Rattle.std.specs.Prelude.{◌≡◌, refl, ℕ, ◌^◌, ◌<◌, List, [], ◌∷◌, ◌++◌}
+use Rattle.std.specs.Prelude.{◌≡◌, refl, ℕ, ◌^◌, ◌<◌, Some, List, [], ◌∷◌, ◌++◌}
 use Rattle.std.proofs.Common.{ap, ◌∙◌, arith, ne_eqb}
 use Rattle.std.proofs.lemmas.Bool.{lt-leb}
-use Rattle.line.specs.declared.Line.TheVariants.{Edit}
-use Rattle.line.specs.Line.{onto, cut, fields_of, given, edit_from, line_of}
+use Rattle.line.specs.Line.{onto, cut, fields_of, given, edit_with, edit_from, line_of}
 use Rattle.text.specs.Text.{decimal, pattern, space}
 use Rattle.spelt.specs.laws.Digits.{read-pattern, read-decimal, From, from_both, from_less, from_decimal, from_pattern, cut-before}
 use Rattle.entered.specs.Input.{edit_text}
@@ -28,7 +27,7 @@ fields-written row function a b c times =
     (one_more_lem (pattern b) _ (from_pattern b) (one_more_lem (pattern c) _ (from_pattern c) (alone (decimal times) (from_decimal times))))))
 
 pub written : (row function a b c times : ℕ) → row < 2 ^ 32 → function < 2 ^ 8 → a < 2 ^ 64 → b < 2 ^ 64 → c < 2 ^ 64 → times < 2 ^ 16
-    → line_of (edit_text row function a b c times) ≡ Edit row function a b c times
+    → line_of (edit_text row function a b c times) ≡ Some (edit_with row function a b c times)
 unfolding line_of edit_from given
 written row function a b c times hr hf ha hb hc ht =
     rw (fields-written row function a b c times)

@@ -1,10 +1,10 @@
 -- Digits held are the number that they spell. Assumes nothing.
-use Rattle.std.specs.Prelude.{◌≡◌, refl, ℕ, zero, suc, ◌+◌, ◌*◌, ◌/◌, ◌%◌, ◌^◌, ◌≤◌, ◌<◌, Bool, true, false, cond, ◌||◌, List, [], ◌∷◌, ◌++◌, ltb, length}
-use Rattle.std.proofs.Common.{sym, ap, ◌∙◌, div-one, div-add-mod', arith, true≢false, ltb-true, ltb-false}
+use Rattle.std.specs.Prelude.{◌≡◌, refl, ℕ, zero, suc, ◌+◌, ◌*◌, ◌/◌, ◌%◌, ◌^◌, ◌≤◌, ◌<◌, Bool, true, false, cond, ◌||◌, Option, Some, None, List, [], ◌∷◌, ◌++◌, ltb, length}
+use Rattle.std.proofs.Common.{sym, ap, ◌∙◌, div-one, div-add-mod', arith, ltb-true, ltb-false}
 use Rattle.std.proofs.Math.Nat.{mod-one}
+use Rattle.std.specs.Option.{option_and_then}
+use Rattle.std.proofs.lemmas.Option.{same_Some}
 use Rattle.laws.specs.Ladder.{when◌gives◌else◌}
-use Rattle.line.specs.declared.Number.{Number}
-use Rattle.line.specs.declared.Number.TheVariants.{Value, Not}
 use Rattle.bits.specs.Rounded.{Kept}
 use Rattle.bits.specs.laws.Keeping.{kept-digits, kept_high, kept_rest}
 use Rattle.hexfloat.specs.declared.digits.Held.{Held}
@@ -56,8 +56,8 @@ unfolding with_digit
 holds_more n h d l H = go (ltb h.high (2 ^ 60)) refl
   where
     go : (t : Bool) → ltb h.high (2 ^ 60) ≡ t
-        → Holds (n * 16 + d) (when t gives record { high = h.high * 16 + h.low / 2 ^ 60; low = h.low % 2 ^ 60 * 16 + d; more = h.more; dropped = h.dropped; good = h.good } else
-        record { high = h.high; low = h.low; more = h.more || ltb 0 d; dropped = h.dropped + 1; good = h.good })
+        → Holds (n * 16 + d) (when t gives record { high = h.high * 16 + h.low / 2 ^ 60; low = h.low % 2 ^ 60 * 16 + d; more = h.more; dropped = h.dropped } else
+        record { high = h.high; low = h.low; more = h.more || ltb 0 d; dropped = h.dropped + 1 })
     go true e =
         let z = none_dropped n h H (ltb-true h.high (2 ^ 60) e) in
         let k : Kept n (h.high * 2 ^ 64 + h.low) 0 h.more = rw z at H.kept in
@@ -79,43 +79,28 @@ dropped_more h d = go (ltb h.high (2 ^ 60)) _ _ (omega arith) (omega arith)
     go true a b p q = p
     go false a b p q = q
 
-pub none-held : Leads (Value 0) (no_digits true)
+pub none-held : Leads (Some 0) (Some no_digits)
 unfolding Leads
-none-held = (refl, record { kept = itself 0; full = λ (p : 0 < 0). absurd (omega arith) })
+none-held = record { kept = itself 0; full = λ (p : 0 < 0). absurd (omega arith) }
 
-flag : (h : Held) (d : ℕ) → (with_digit h d).good ≡ h.good
-unfolding with_digit
-flag h d = both (ltb h.high (2 ^ 60)) _ _ refl refl
-  where
-    both : (t : Bool) (a b : Held) → a.good ≡ h.good → b.good ≡ h.good → (cond t a b).good ≡ h.good
-    both true a b p q = p
-    both false a b p q = q
-
-stays_bad : (h : Held) (s : List ℕ) → h.good ≡ false → (held_from h s).good ≡ false
-unfolding held_from
-stays_bad h [] e = e
-stays_bad h (x ∷ xs) e = go (ltb (hex_digit_of x) 16) _ _ (stays_bad (with_digit h (hex_digit_of x)) xs (flag h (hex_digit_of x) ∙ e)) refl
-  where
-    go : (t : Bool) (a b : Held) → a.good ≡ false → b.good ≡ false → (cond t a b).good ≡ false
-    go true a b p q = p
-    go false a b p q = q
-
-spelt : (n : ℕ) (h : Held) (s : List ℕ) → h.good ≡ true → Holds n h → Leads (hex_of n s) (held_from h s)
+spelt : (n : ℕ) (h : Held) (s : List ℕ) → Holds n h → Leads (hex_of n s) (held_from h s)
 unfolding hex_of held_from Leads
-spelt n h [] g H = (g, H)
-spelt n h (x ∷ xs) g H =
-    go (ltb (hex_digit_of x) 16) refl (λ l. spelt (n * 16 + hex_digit_of x) (with_digit h (hex_digit_of x)) xs (flag h (hex_digit_of x) ∙ g) (holds_more n h (hex_digit_of x) l H))
+spelt n h [] H = H
+spelt n h (x ∷ xs) H =
+    go (ltb (hex_digit_of x) 16) refl (λ l. spelt (n * 16 + hex_digit_of x) (with_digit h (hex_digit_of x)) xs (holds_more n h (hex_digit_of x) l H))
   where
     go : (t : Bool) → ltb (hex_digit_of x) 16 ≡ t → (hex_digit_of x < 16 → Leads (hex_of (n * 16 + hex_digit_of x) xs) (held_from (with_digit h (hex_digit_of x)) xs))
-        → Leads (cond t (hex_of (n * 16 + hex_digit_of x) xs) Not) (cond t (held_from (with_digit h (hex_digit_of x)) xs) (no_digits false))
+        → Leads (cond t (hex_of (n * 16 + hex_digit_of x) xs) None) (cond t (held_from (with_digit h (hex_digit_of x)) xs) None)
     go true e next = next (ltb-true (hex_digit_of x) 16 e)
-    go false e next = refl
+    go false e next = tt
 
 -- digits after those that led to a number
-pub leads_on : (n : Number) (h : Held) (s : List ℕ) → Leads n h → Leads (given n (λ m. hex_of m s)) (held_from h s)
+pub leads_on : (n : Option ℕ) (h : Option Held) (s : List ℕ) → Leads n h → Leads (given n (λ m. hex_of m s)) (option_and_then (λ (k : Held). held_from k s) h)
 unfolding given Leads
-leads_on Not h s e = stays_bad h s e
-leads_on (Value n) h s e = spelt n h s e.0 e.1
+leads_on None None s e = tt
+leads_on None (Some h) s e = absurd e
+leads_on (Some n) None s e = absurd e
+leads_on (Some n) (Some h) s e = spelt n h s e
 
 pub spelt_both : (n : ℕ) (a b : List ℕ) → hex_of n (a ++ b) ≡ given (hex_of n a) (λ m. hex_of m b)
 unfolding hex_of given
@@ -123,32 +108,33 @@ spelt_both n [] b = refl
 spelt_both n (x ∷ xs) b = go (ltb (hex_digit_of x) 16) (spelt_both (n * 16 + hex_digit_of x) xs b)
   where
     go : (t : Bool) → hex_of (n * 16 + hex_digit_of x) (xs ++ b) ≡ given (hex_of (n * 16 + hex_digit_of x) xs) (λ m. hex_of m b)
-        → cond t (hex_of (n * 16 + hex_digit_of x) (xs ++ b)) Not ≡ given (cond t (hex_of (n * 16 + hex_digit_of x) xs) Not) (λ m. hex_of m b)
+        → cond t (hex_of (n * 16 + hex_digit_of x) (xs ++ b)) None ≡ given (cond t (hex_of (n * 16 + hex_digit_of x) xs) None) (λ m. hex_of m b)
     go true e = e
     go false e = refl
 
 -- two parts of digits, from nothing
-pub leads_both : (a b : List ℕ) → Leads (hex_of 0 (a ++ b)) (held_from (held_from (no_digits true) a) b)
+pub leads_both : (a b : List ℕ) → Leads (hex_of 0 (a ++ b)) (option_and_then (λ (h : Held). held_from h b) (held_from no_digits a))
 unfolding given
-leads_both a b = rw (spelt_both 0 a b) (leads_on (hex_of 0 a) (held_from (no_digits true) a) b (leads_on (Value 0) (no_digits true) a none-held))
+leads_both a b = rw (spelt_both 0 a b) (leads_on (hex_of 0 a) (held_from no_digits a) b (leads_on (Some 0) (Some no_digits) a none-held))
 
--- what is good holds a number
-pub some_number : (n : Number) (h : Held) → Leads n h → h.good ≡ true → (A : Type 0) → ((m : ℕ) → n ≡ Value m → Holds m h → A) → A
+-- what is held is a number
+pub some_number : (n : Option ℕ) (h : Held) → Leads n (Some h) → (A : Type 0) → ((m : ℕ) → n ≡ Some m → Holds m h → A) → A
 unfolding Leads
-some_number Not h e g A next = absurd (true≢false (sym g ∙ e))
-some_number (Value m) h e g A next = next m refl e.1
+some_number None h e A next = absurd e
+some_number (Some m) h e A next = next m refl e
 
-pub no_number : (n : Number) (h : Held) → Leads n h → h.good ≡ false → n ≡ Not
+pub no_number : (n : Option ℕ) → Leads n None → n ≡ None
 unfolding Leads
-no_number Not h e g = refl
-no_number (Value m) h e g = absurd (true≢false (sym e.0 ∙ g))
+no_number None e = refl
+no_number (Some m) e = absurd e
 
 -- digits drop at most so many
-pub dropped-most : (h : Held) (s : List ℕ) → (held_from h s).dropped ≤ h.dropped + length s
+pub dropped-most : (h : Held) (s : List ℕ) (k : Held) → held_from h s ≡ Some k → k.dropped ≤ h.dropped + length s
 unfolding held_from
-dropped-most h [] = omega arith
-dropped-most h (x ∷ xs) = go (ltb (hex_digit_of x) 16) _ _ (dropped-most (with_digit h (hex_digit_of x)) xs) (dropped_more h (hex_digit_of x))
+dropped-most h [] k e = let same : h ≡ k = same_Some h k e in rw (← same) (omega arith)
+dropped-most h (x ∷ xs) k e = go (ltb (hex_digit_of x) 16) (dropped-most (with_digit h (hex_digit_of x)) xs k) (dropped_more h (hex_digit_of x)) e
   where
-    go : (t : Bool) (a : Held) (d : ℕ) → a.dropped ≤ d + length xs → d ≤ h.dropped + 1 → (cond t a (no_digits false)).dropped ≤ h.dropped + suc (length xs)
-    go true a d p q = omega arith
-    go false a d p q = omega arith
+    go : (t : Bool) → (held_from (with_digit h (hex_digit_of x)) xs ≡ Some k → k.dropped ≤ (with_digit h (hex_digit_of x)).dropped + length xs)
+        → (with_digit h (hex_digit_of x)).dropped ≤ h.dropped + 1 → cond t (held_from (with_digit h (hex_digit_of x)) xs) None ≡ Some k → k.dropped ≤ h.dropped + suc (length xs)
+    go true p q e = let r = p e in omega arith
+    go false p q e = cc

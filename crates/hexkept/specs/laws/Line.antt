@@ -6,12 +6,13 @@ use mathlib.Core.List.{List, [], ◌∷◌, ◌++◌}
 use Rattle.std.proofs.Math.ListN.{length}
 use borrow.Author.Tests.{lt-leb}
 use Rattle.laws.specs.Ladder.{when◌gives◌else◌}
-use Rattle.line.specs.declared.Number.TheVariants.{Value}
+use Rattle.std.specs.Prelude.{Option, Some, None}
+use Rattle.std.specs.Option.{unwrap_or}
 use Rattle.text.specs.Text.{decimal}
 use Rattle.hexfloat.specs.Spelled.{spelled_of}
 use Rattle.hexfloat.specs.Reading.{before}
 use Rattle.hexline.specs.Parts.{part_at, next_of, place_of}
-use Rattle.hexline.specs.Fields.{field_of, says_of, is_not, bad_from, stop_of, number_of, value_in}
+use Rattle.hexline.specs.Fields.{field_of, says_of, bad_from, stop_at, stop_of, value_in}
 use Rattle.spelt.specs.laws.Fractions.{Without}
 use Rattle.hexkept.specs.laws.Parts.{part_there, next_there, past}
 use Rattle.hexkept.specs.laws.Plain.{Plain, without-both, without-first, without-second, plain-decimal, plain_spelled}
@@ -94,19 +95,19 @@ onward t j v u us A = record {
 -- each number from field j on is read as it was written
 abbrev pub AllRead : ℕ → List ℕ → Type 0
 AllRead j [] = Unit {0}
-AllRead j (v ∷ vs) = (field_of j (written_of j v) ≡ Value v) × AllRead (suc j) vs
+AllRead j (v ∷ vs) = (field_of j (written_of j v) ≡ Some v) × AllRead (suc j) vs
 
-says_at : (t : List ℕ) (k j v : ℕ) (vs : List ℕ) → k ≤ length vs → At t j v vs → AllRead j (v ∷ vs) → says_of t (j + k) ≡ Value (get_or (v ∷ vs) k 0)
+says_at : (t : List ℕ) (k j v : ℕ) (vs : List ℕ) → k ≤ length vs → At t j v vs → AllRead j (v ∷ vs) → says_of t (j + k) ≡ Some (get_or (v ∷ vs) k 0)
 says_at t zero j v vs h A R = rw (add-zero j) (says_field t j v vs A ∙ R.0)
 says_at t (suc k) j v [] h A R = absurd (omega arith)
 says_at t (suc k) j v (u ∷ us) h A R =
     rw (add-suc j k, ← suc-add j k) (says_at t k (suc j) u us (omega arith) (onward t j v u us A) R.1)
 
-none_bad : (t : List ℕ) (j v : ℕ) (vs : List ℕ) → At t j v vs → AllRead j (v ∷ vs) → bad_from t (suc (length vs)) j ≡ suc (j + length vs)
-unfolding bad_from is_not
-none_bad t j v [] A R = rw (says_field t j v [] A, R.0, add-zero j) refl
+none_bad : (t : List ℕ) (j v : ℕ) (vs : List ℕ) → At t j v vs → AllRead j (v ∷ vs) → bad_from t (suc (length vs)) j ≡ None
+unfolding bad_from
+none_bad t j v [] A R = rw (says_field t j v [] A, R.0) refl
 none_bad t j v (u ∷ us) A R =
-    rw (says_field t j v (u ∷ us) A, R.0) (none_bad t (suc j) u us (onward t j v u us A) R.1 ∙ omega arith)
+    rw (says_field t j v (u ∷ us) A, R.0) (none_bad t (suc j) u us (onward t j v u us A) R.1)
 
 place_end : (t : List ℕ) (j v : ℕ) (vs : List ℕ) → At t j v vs → place_of 44 t (suc (j + length vs)) ≡ length t + 1
 unfolding behind
@@ -125,13 +126,13 @@ module _ (v : ℕ) (vs : List ℕ) (eight : length vs ≡ 7) (R : AllRead 0 (v �
   unfolding place_of
   start = record { front = []; is = refl; place = refl }
 
-  pub line_stops : stop_of line ≡ 0
-  unfolding stop_of
+  pub line_stops : stop_of line ≡ None
+  unfolding stop_of stop_at
   line_stops =
-      let bad : bad_from line 8 0 ≡ 8 = rw eight at (none_bad line 0 v vs start R) in
+      let bad : bad_from line 8 0 ≡ None = rw eight at (none_bad line 0 v vs start R) in
       let place : place_of 44 line 8 ≡ length line + 1 = rw eight at (place_end line 0 v vs start) in
       rw (bad, place, lt-leb (length line + 1) (length line) (omega arith)) refl
 
   pub line_says : (k : ℕ) → k ≤ 7 → value_in line k ≡ get_or (v ∷ vs) k 0
-  unfolding value_in number_of
-  line_says k h = ap number_of (ap (says_of line) (sym (zero-add k)) ∙ says_at line k 0 v vs (omega arith) start R)
+  unfolding value_in
+  line_says k h = ap (λ (o : Option ℕ). unwrap_or o 0) (ap (says_of line) (sym (zero-add k)) ∙ says_at line k 0 v vs (omega arith) start R)

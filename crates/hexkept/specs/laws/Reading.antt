@@ -9,8 +9,7 @@ use Rattle.std.proofs.Math.Seq.{set-append_seam, append_snoc}
 use borrow.Author.Tests.{le-ltb, lt-leb, eq-eqb, ne_eqb}
 use Rattle.answer.specs.Numbers.{last}
 use Rattle.text.specs.Text.{decimal}
-use Rattle.line.specs.declared.Number.{Number}
-use Rattle.line.specs.declared.Number.TheVariants.{Value, Not}
+use Rattle.std.specs.Prelude.{Option, Some, None}
 use Rattle.line.specs.Line.{spell_of, decimal_of}
 use Rattle.ledger.specs.Bytes.{pattern_at}
 use Rattle.ledger.specs.Sheet.{Row, withdrawn, most_rows, size_for, blank_row, function_in, refusal_in, encode}
@@ -28,7 +27,7 @@ use Rattle.hexline.specs.Parts.{part_at, next_of}
 use Rattle.hexline.specs.Fields.{value_in}
 use Rattle.spelt.specs.laws.Digits.{read-decimal}
 use Rattle.spelt.specs.laws.Fractions.{Without}
-use Rattle.hextext.specs.HexText.{halt_at, fine, entry_of, differ_of, line_halt, came, line_into, rows_into, count_of, count_into, text_into}
+use Rattle.hextext.specs.HexText.{halt_at, fine, entry_of, differ_of, halts_at, line_halt, came, line_into, rows_into, count_of, count_into, text_into}
 use Rattle.hexkept.specs.Entered.{Fits, Entered, AllEntered}
 use Rattle.hexkept.specs.laws.Parts.{part_there, next_there, past}
 use Rattle.hexkept.specs.laws.Plain.{without-second, plain-decimal}
@@ -59,7 +58,7 @@ module _ (e : Entry) (F : Fits e) (known : e.function ≤ last) (stays : e.funct
   row_is : row_of (entry_of line) ≡ row
   row_is = ap row_of entry_is ∙ row_again e F
 
-  agrees : differ_of line ≡ 0
+  agrees : differ_of line ≡ None
   unfolding differ_of
   agrees =
       rw (
@@ -77,7 +76,7 @@ module _ (e : Entry) (F : Fits e) (known : e.function ≤ last) (stays : e.funct
   function_is = says 0 (lit≤ tt) ∙ function_row_of e
 
   halts_not : (k : ℕ) → line_halt k line ≡ fine
-  unfolding line_halt
+  unfolding line_halt halts_at
   halts_not k =
       rw (line_stops (function_in row) (others_in row) refl (row_read e known), function_is, ne_eqb e.function withdrawn stays, agrees) refl
 
@@ -156,13 +155,13 @@ rows_into_lem t (w ∷ ws) (E, Es) ds r few x is =
 -- ---- the row count
 
 -- what is read as a number of ten digits is read as a count
-count-read : (n : ℕ) → n < 10 ^ 10 → count_of (decimal n) ≡ Value n
+count-read : (n : ℕ) → n < 10 ^ 10 → count_of (decimal n) ≡ Some n
 unfolding count_of decimal_of
 count-read n h = by (eqb (length (decimal n)) 0) (ltb 10 (length (decimal n))) (read-decimal n h) where
-  rest : Number
-  rest = cond (ltb 1 (length (decimal n)) && eqb (get_or (decimal n) 0 0) 48) Not (spell_of 10 0 (decimal n))
+  rest : Option ℕ
+  rest = cond (ltb 1 (length (decimal n)) && eqb (get_or (decimal n) 0 0) 48) None (spell_of 10 0 (decimal n))
 
-  by : (p q : Bool) → cond p Not (cond q Not rest) ≡ Value n → cond p Not rest ≡ Value n
+  by : (p q : Bool) → cond p None (cond q None rest) ≡ Some n → cond p None rest ≡ Some n
   by true q e = e
   by false true e = let z : ◌≡◌ {A = ℕ} 0 1 = cc in absurd (omega arith)
   by false false e = e

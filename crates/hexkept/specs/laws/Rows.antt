@@ -1,5 +1,5 @@
 -- A row that was entered and its line: what the line says is an entry of the same row. Assumes nothing.
-use Rattle.std.specs.Prelude.{◌≡◌, ℕ, zero, suc, ◌/◌, ◌%◌, ◌^◌, ◌≤◌, ◌<◌, Bool, List, [], ◌∷◌, ◌++◌, ltb, eqb}
+use Rattle.std.specs.Prelude.{◌≡◌, ℕ, zero, suc, ◌/◌, ◌%◌, ◌^◌, ◌≤◌, ◌<◌, Bool, Some, List, [], ◌∷◌, ◌++◌, ltb, eqb}
 use Rattle.std.proofs.Math.Path.{refl}
 use Rattle.std.proofs.Common.{sym, ap, ◌∙◌, pow-suc, mod-lt, arith, append_assoc, le-ltb, lit≤}
 use Rattle.std.proofs.Math.Bool.{true, false, cond}
@@ -8,7 +8,6 @@ use Rattle.std.specs.Float.{binary64}
 use Rattle.std.specs.Float.Ieee.{to_bits}
 use Rattle.answer.specs.Answer.{first_of, second_of}
 use Rattle.answer.specs.Numbers.{last}
-use Rattle.line.specs.declared.Number.TheVariants.{Value}
 use Rattle.ledger.specs.Bytes.{bytes, number, fields, pattern_at}
 use Rattle.ledger.specs.Sheet.{Row, row_bytes, blank_row, function_in, refusal_in, times_in}
 use Rattle.ledger.specs.laws.Fields.{number-bytes}
@@ -78,11 +77,11 @@ small_row : (e : Entry) → e.function ≤ last → Small (row_of e)
 unfolding kept_of
 small_row e h = either e Small (λ _. small_blank) (small_answered (kept_of e) h)
 
-read_function : (f : ℕ) → f ≤ last → field_of 0 (written_of 0 f) ≡ Value f
+read_function : (f : ℕ) → f ≤ last → field_of 0 (written_of 0 f) ≡ Some f
 unfolding written_of field_of up_to
 read_function f h = rw (read-decimal f (omega arith), le-ltb last f h) refl
 
-read-times : (k : ℕ) → k < 2 ^ 16 → field_of 4 (written_of 4 k) ≡ Value k
+read-times : (k : ℕ) → k < 2 ^ 16 → field_of 4 (written_of 4 k) ≡ Some k
 unfolding written_of field_of up_to
 read-times k h = rw (read-decimal k (omega arith), le-ltb 65535 k (omega arith)) refl
 

@@ -1,17 +1,16 @@
 -- A line's function and times are small. Assumes nothing.
-use Rattle.std.specs.Prelude.{◌≡◌, refl, ℕ, ◌≤◌, Bool, true, false, cond, List, ltb}
+use Rattle.std.specs.Prelude.{◌≡◌, refl, ℕ, ◌≤◌, Bool, true, false, cond, Option, Some, None, List, ltb}
 use Rattle.std.proofs.Common.{arith, ltb-false}
+use Rattle.std.specs.Option.{unwrap_or}
 use Rattle.answer.specs.Numbers.{last}
-use Rattle.line.specs.declared.Number.{Number}
-use Rattle.line.specs.declared.Number.TheVariants.{Value, Not}
-use Rattle.hexline.specs.Fields.{up_to, field_of, says_of, number_of, value_in}
+use Rattle.hexline.specs.Fields.{up_to, field_of, says_of, value_in}
 
-up_to_small : (most : ℕ) (n : Number) → number_of (up_to most n) ≤ most
-unfolding up_to number_of
-up_to_small most Not = omega arith
-up_to_small most (Value k) = by (ltb most k) refl
+up_to_small : (most : ℕ) (n : Option ℕ) → unwrap_or (up_to most n) 0 ≤ most
+unfolding up_to
+up_to_small most None = omega arith
+up_to_small most (Some k) = by (ltb most k) refl
   where
-    by : (t : Bool) → ltb most k ≡ t → number_of (cond t Not (Value k)) ≤ most
+    by : (t : Bool) → ltb most k ≡ t → unwrap_or (cond t None (Some k)) 0 ≤ most
     by true e = omega arith
     by false e = ltb-false most k e
 

@@ -15,19 +15,19 @@ returns-in_default c =
     ap (came a.sheet.now) c.halted.ensures ∙ no_count a.text.now a.sheet.now _ (sym c.in_default.is ∙ c.rows.ensures)
 
 pub overflow_cast-n : goal.overflow_cast-n
-overflow_cast-n c = omega (arith, cut_most _ c.in-Value.n (sym c.in-Value.is ∙ c.rows.ensures))
+overflow_cast-n c = omega (arith, cut_most _ c.in-Some.n (sym c.in-Some.is ∙ c.rows.ensures))
 
 pub returns-then-refusal-ne0 : goal.returns-then-refusal-ne0
 unfolding text_into
 returns-then-refusal-ne0 c =
     let a = c.args in
     let q = c.make_blank-refusal.ensures in
-    let bad : blank_refusal a.sheet.now c.in-Value.n ≡ 0 → ⊥ = λ e. c.if-refusal-ne0.true (q.0 ∙ e) in
-    ap₂ came (q.1 ∙ left_alone a.text.now a.sheet.now c.in-Value.n bad) (c.halted-then-refusal-ne0.ensures ∙ ap (λ (k : ℕ). halt_at k 0 0) q.0)
-    ∙ count_refused a.text.now a.sheet.now _ c.in-Value.n (sym c.in-Value.is ∙ c.rows.ensures) bad
+    let bad : blank_refusal a.sheet.now c.in-Some.n ≡ 0 → ⊥ = λ e. c.if-refusal-ne0.true (q.0 ∙ e) in
+    ap₂ came (q.1 ∙ left_alone a.text.now a.sheet.now c.in-Some.n bad) (c.halted-then-refusal-ne0.ensures ∙ ap (λ (k : ℕ). halt_at k 0 0) q.0)
+    ∙ count_refused a.text.now a.sheet.now _ c.in-Some.n (sym c.in-Some.is ∙ c.rows.ensures) bad
 
 pub overflow_cast-n-2 : goal.overflow_cast-n-2
-overflow_cast-n-2 c = omega (arith, cut_most _ c.in-Value.n (sym c.in-Value.is ∙ c.rows.ensures))
+overflow_cast-n-2 c = omega (arith, cut_most _ c.in-Some.n (sym c.in-Some.is ∙ c.rows.ensures))
 
 pub read_rows-requires : goal.read_rows-requires
 read_rows-requires c =
@@ -41,4 +41,4 @@ returns c =
     let q = c.make_blank-refusal.ensures in
     let good = sym q.0 ∙ c.if-refusal-ne0.false in
     rw (c.next.ensures, q.1) at c.read_rows.ensures
-    ∙ count-taken a.text.now a.sheet.now _ c.in-Value.n (sym c.in-Value.is ∙ c.rows.ensures) good
+    ∙ count-taken a.text.now a.sheet.now _ c.in-Some.n (sym c.in-Some.is ∙ c.rows.ensures) good

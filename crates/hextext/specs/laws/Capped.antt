@@ -1,8 +1,7 @@
 -- A count that is cut at 1,025 whenever it is more is the count, cut. Assumes nothing.
-use Rattle.std.specs.Prelude.{◌≡◌, refl, ℕ, ◌+◌, ◌*◌, min, Bool, true, false, cond, List, [], ◌∷◌, ltb}
+use Rattle.std.specs.Prelude.{◌≡◌, refl, ℕ, ◌+◌, ◌*◌, min, Bool, true, false, cond, Some, None, List, [], ◌∷◌, ltb}
 use Rattle.std.proofs.Common.{sym, ap, ◌∙◌, arith}
 use Rattle.std.proofs.Math.Nat.{min-eq_left, min-eq_right, min-le_right}
-use Rattle.line.specs.declared.Number.TheVariants.{Value, Not}
 use Rattle.line.specs.Line.{digit_of, spell_of}
 use Rattle.line.specs.laws.Long.{below}
 use Rattle.hextext.specs.HexText.{capped}
@@ -20,10 +19,10 @@ same_step m n d e =
 
 pub cut-same : (xs : List ℕ) (m n : ℕ) → min m 1025 ≡ min n 1025 → capped (spell_of 10 m xs) ≡ capped (spell_of 10 n xs)
 unfolding spell_of capped
-cut-same [] m n e = ap Value e
+cut-same [] m n e = ap Some e
 cut-same (x ∷ xs) m n e = by (ltb (digit_of x) 10) (cut-same xs (m * 10 + digit_of x) (n * 10 + digit_of x) (same_step m n (digit_of x) e)) where
   by : (t : Bool) → capped (spell_of 10 (m * 10 + digit_of x) xs) ≡ capped (spell_of 10 (n * 10 + digit_of x) xs)
-      → capped (cond t (spell_of 10 (m * 10 + digit_of x) xs) Not) ≡ capped (cond t (spell_of 10 (n * 10 + digit_of x) xs) Not)
+      → capped (cond t (spell_of 10 (m * 10 + digit_of x) xs) None) ≡ capped (cond t (spell_of 10 (n * 10 + digit_of x) xs) None)
   by true h = h
   by false h = refl
 

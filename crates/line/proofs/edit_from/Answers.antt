@@ -1,53 +1,48 @@
--- Each number that is none ends it as the definition's `given` does; the three tests are the definition's.
-use borrow.Author.Tests.{le-leb, lt-leb}
+-- Each number that is none ends it as the definition's `given` does; the three conversions are the definition's tests.
 use Rattle.line.specs.Line.{given, edit_from}
+use Rattle.line.proofs.Fitting.{fitted, unfitted}
 use Rattle.line.proofs.edit_from.Goals as goal
 
-pub returns-in_default : goal.returns-in_default
+pub returns-in_err-row : goal.returns-in_err-row
 unfolding edit_from given
-returns-in_default c = simp c.in_default.is
+returns-in_err-row c = simp (c.from_residual.ensures, c.in_err-row.was)
 
-pub returns-in_default-function : goal.returns-in_default-function
+pub returns-in_err-function : goal.returns-in_err-function
 unfolding edit_from given
-returns-in_default-function c =
-    simp (c.in_default-function.is, c.in-Value.is)
+returns-in_err-function c = simp (c.from_residual-in_err-function.ensures, c.in_err-function.was, c.in_ok-row.was)
 
-pub returns-in_default-a : goal.returns-in_default-a
+pub returns-in_err-a : goal.returns-in_err-a
 unfolding edit_from given
-returns-in_default-a c =
-    simp (c.in_default-a.is, c.in-Value-function.is, c.in-Value.is)
+returns-in_err-a c = simp (c.from_residual-in_err-a.ensures, c.in_err-a.was, c.in_ok-row.was, c.in_ok-function.was)
 
-pub returns-in_default-b : goal.returns-in_default-b
+pub returns-in_err-b : goal.returns-in_err-b
 unfolding edit_from given
-returns-in_default-b c =
-    simp (c.in_default-b.is, c.in-Value-a.is, c.in-Value-function.is, c.in-Value.is)
+returns-in_err-b c = simp (c.from_residual-in_err-b.ensures, c.in_err-b.was, c.in_ok-row.was, c.in_ok-function.was, c.in_ok-a.was)
 
-pub returns-in_default-c : goal.returns-in_default-c
+pub returns-in_err-c : goal.returns-in_err-c
 unfolding edit_from given
-returns-in_default-c c =
-    simp (c.in_default-c.is, c.in-Value-b.is, c.in-Value-a.is, c.in-Value-function.is, c.in-Value.is)
+returns-in_err-c c = simp (c.from_residual-in_err-c.ensures, c.in_err-c.was, c.in_ok-row.was, c.in_ok-function.was, c.in_ok-a.was, c.in_ok-b.was)
 
-pub returns-in_default-times : goal.returns-in_default-times
+pub returns-in_err-times : goal.returns-in_err-times
 unfolding edit_from given
-returns-in_default-times c =
-    simp (c.in_default-times.is, c.in-Value-c.is, c.in-Value-b.is, c.in-Value-a.is, c.in-Value-function.is, c.in-Value.is)
+returns-in_err-times c = simp (c.from_residual-in_err-times.ensures, c.in_err-times.was, c.in_ok-row.was, c.in_ok-function.was, c.in_ok-a.was, c.in_ok-b.was, c.in_ok-c.was)
 
-pub returns-then-row-ge4294967296 : goal.returns-then-row-ge4294967296
+pub returns-in_err-ok : goal.returns-in_err-ok
 unfolding edit_from given
-returns-then-row-ge4294967296 c =
-    simp (c.in-Value-times.is, c.in-Value-c.is, c.in-Value-b.is, c.in-Value-a.is, c.in-Value-function.is, c.in-Value.is, le-leb _ _ c.if-row-ge4294967296.true)
+returns-in_err-ok c =
+    simp (c.from_residual-in_err-ok.ensures, c.in_ok-row.was, c.in_ok-function.was, c.in_ok-a.was, c.in_ok-b.was, c.in_ok-c.was, c.in_ok-times.was, unfitted c.try_from.result c.in_ok-row.row 4294967296 c.try_from.ensures c.in_err-ok.ensures.value)
 
-pub returns-then-function-ge256 : goal.returns-then-function-ge256
+pub returns-in_err-ok-2 : goal.returns-in_err-ok-2
 unfolding edit_from given
-returns-then-function-ge256 c =
-    simp (c.in-Value-times.is, c.in-Value-c.is, c.in-Value-b.is, c.in-Value-a.is, c.in-Value-function.is, c.in-Value.is, lt-leb _ _ c.if-row-ge4294967296.false, le-leb _ _ c.if-function-ge256.true)
+returns-in_err-ok-2 c =
+    simp (c.from_residual-in_err-ok-2.ensures, c.in_ok-row.was, c.in_ok-function.was, c.in_ok-a.was, c.in_ok-b.was, c.in_ok-c.was, c.in_ok-times.was, (fitted c.try_from.result c.in_ok-row.row 4294967296 _ c.try_from.ensures c.in_ok-ok.ensures.value).1, unfitted c.try_from-2.result c.in_ok-function.function 256 c.try_from-2.ensures c.in_err-ok-2.ensures.value)
 
-pub returns-then-times-ge65536 : goal.returns-then-times-ge65536
+pub returns-in_err-ok-3 : goal.returns-in_err-ok-3
 unfolding edit_from given
-returns-then-times-ge65536 c =
-    simp (c.in-Value-times.is, c.in-Value-c.is, c.in-Value-b.is, c.in-Value-a.is, c.in-Value-function.is, c.in-Value.is, lt-leb _ _ c.if-row-ge4294967296.false, lt-leb _ _ c.if-function-ge256.false, le-leb _ _ c.if-times-ge65536.true)
+returns-in_err-ok-3 c =
+    simp (c.from_residual-in_err-ok-3.ensures, c.in_ok-row.was, c.in_ok-function.was, c.in_ok-a.was, c.in_ok-b.was, c.in_ok-c.was, c.in_ok-times.was, (fitted c.try_from.result c.in_ok-row.row 4294967296 _ c.try_from.ensures c.in_ok-ok.ensures.value).1, (fitted c.try_from-2.result c.in_ok-function.function 256 _ c.try_from-2.ensures c.in_ok-ok-2.ensures.value).1, unfitted c.try_from-3.result c.in_ok-times.times 65536 c.try_from-3.ensures c.in_err-ok-3.ensures.value)
 
 pub returns : goal.returns
 unfolding edit_from given
 returns c =
-    simp (c.in-Value-times.is, c.in-Value-c.is, c.in-Value-b.is, c.in-Value-a.is, c.in-Value-function.is, c.in-Value.is, lt-leb _ _ c.if-row-ge4294967296.false, lt-leb _ _ c.if-function-ge256.false, lt-leb _ _ c.if-times-ge65536.false)
+    simp (c.in_ok-row.was, c.in_ok-function.was, c.in_ok-a.was, c.in_ok-b.was, c.in_ok-c.was, c.in_ok-times.was, (fitted c.try_from.result c.in_ok-row.row 4294967296 _ c.try_from.ensures c.in_ok-ok.ensures.value).1, (fitted c.try_from-2.result c.in_ok-function.function 256 _ c.try_from-2.ensures c.in_ok-ok-2.ensures.value).1, (fitted c.try_from-3.result c.in_ok-times.times 65536 _ c.try_from-3.ensures c.in_ok-ok-3.ensures.value).1, (fitted c.try_from.result c.in_ok-row.row 4294967296 _ c.try_from.ensures c.in_ok-ok.ensures.value).0, (fitted c.try_from-2.result c.in_ok-function.function 256 _ c.try_from-2.ensures c.in_ok-ok-2.ensures.value).0, (fitted c.try_from-3.result c.in_ok-times.times 65536 _ c.try_from-3.ensures c.in_ok-ok-3.ensures.value).0)

@@ -1,15 +1,12 @@
 -- A line of more than 83 bytes is malformed whatever it says, so a reader need not keep it. Assumes nothing.
-use Rattle.std.specs.Prelude.{◌≡◌, ℕ, zero, suc, ◌+◌, ◌≤◌, ◌<◌, Bool, cond, drop, get_or, ltb, eqb}
+use Rattle.std.specs.Prelude.{◌≡◌, ℕ, zero, suc, ◌+◌, ◌≤◌, ◌<◌, Option, Some, None, Bool, cond, drop, get_or, ltb, eqb}
 use Rattle.std.proofs.Math.Path.{refl}
 use Rattle.std.proofs.Common.{ap, ◌∙◌, drop_of_length-le, lt-ltb, ne_eqb, ltb-false, ltb-true, eqb-true}
 use native.Mathlib.Omega.{arith}
 use Rattle.std.proofs.Math.Bool.{true, false}
 use mathlib.Core.List.{List, [], ◌∷◌}
 use Rattle.std.proofs.Math.ListN.{length}
-use Rattle.line.specs.declared.Number.{Number}
-use Rattle.line.specs.declared.Number.TheVariants.{Value, Not}
-use Rattle.line.specs.declared.Line.{Line}
-use Rattle.line.specs.declared.Line.TheVariants.{Malformed}
+use Rattle.line.specs.declared.Edit.{Edit}
 use Rattle.line.specs.Line.{decimal_of, pattern_of, onto, cut, fields_of, given, edit_from, line_of}
 
 -- either a is below b or it is not
@@ -21,47 +18,47 @@ below a b {A} f g = by (ltb a b) refl where
 
 -- ---- a number that is none spoils the line, wherever it stands
 
-spoilt : (x : Number) (next : ℕ → Line) → ((n : ℕ) → next n ≡ Malformed) → given x next ≡ Malformed
+spoilt : (x : Option ℕ) (next : ℕ → Option Edit) → ((n : ℕ) → next n ≡ None) → given x next ≡ None
 unfolding given
-spoilt Not next h = refl
-spoilt (Value n) next h = h n
+spoilt None next h = refl
+spoilt (Some n) next h = h n
 
-module _ (row function a b c times : Number) where
-  pub no_row : row ≡ Not → edit_from row function a b c times ≡ Malformed
+module _ (row function a b c times : Option ℕ) where
+  pub no_row : row ≡ None → edit_from row function a b c times ≡ None
   unfolding edit_from given
   no_row e = rw e refl
 
-  pub no_function : function ≡ Not → edit_from row function a b c times ≡ Malformed
+  pub no_function : function ≡ None → edit_from row function a b c times ≡ None
   unfolding edit_from given
   no_function e = rw e (spoilt row _ (λ _. refl))
 
-  pub no_first : a ≡ Not → edit_from row function a b c times ≡ Malformed
+  pub no_first : a ≡ None → edit_from row function a b c times ≡ None
   unfolding edit_from given
   no_first e = rw e (spoilt row _ (λ _. spoilt function _ (λ _. refl)))
 
-  pub no_second : b ≡ Not → edit_from row function a b c times ≡ Malformed
+  pub no_second : b ≡ None → edit_from row function a b c times ≡ None
   unfolding edit_from given
   no_second e = rw e (spoilt row _ (λ _. spoilt function _ (λ _. spoilt a _ (λ _. refl))))
 
-  pub no_third : c ≡ Not → edit_from row function a b c times ≡ Malformed
+  pub no_third : c ≡ None → edit_from row function a b c times ≡ None
   unfolding edit_from given
   no_third e = rw e (spoilt row _ (λ _. spoilt function _ (λ _. spoilt a _ (λ _. spoilt b _ (λ _. refl)))))
 
-  pub no_times : times ≡ Not → edit_from row function a b c times ≡ Malformed
+  pub no_times : times ≡ None → edit_from row function a b c times ≡ None
   unfolding edit_from given
   no_times e = rw e (spoilt row _ (λ _. spoilt function _ (λ _. spoilt a _ (λ _. spoilt b _ (λ _. spoilt c _ (λ _. refl))))))
 
 -- ---- empty and long fields are no numbers
 
-pub decimal-none : decimal_of [] ≡ Not
+pub decimal-none : decimal_of [] ≡ None
 unfolding decimal_of
 decimal-none = refl
 
-pub decimal-long : (s : List ℕ) → 10 < length s → decimal_of s ≡ Not
+pub decimal-long : (s : List ℕ) → 10 < length s → decimal_of s ≡ None
 unfolding decimal_of
 decimal-long s h = simp (ne_eqb (length s) 0 (λ e. omega arith), lt-ltb 10 (length s) h)
 
-pub pattern_other : (s : List ℕ) → (length s ≡ 16 → ⊥) → pattern_of s ≡ Not
+pub pattern_other : (s : List ℕ) → (length s ≡ 16 → ⊥) → pattern_of s ≡ None
 unfolding pattern_of
 pattern_other s h = simp (ne_eqb (length s) 16 h)
 
@@ -126,19 +123,19 @@ room_six s ps e six =
 
 -- ---- the laws
 
-pub long-count : (s : List ℕ) → 83 < length s → decimal_of s ≡ Not
+pub long-count : (s : List ℕ) → 83 < length s → decimal_of s ≡ None
 long-count s h = decimal-long s (omega arith)
 
-pub long-line : (s : List ℕ) → 83 < length s → line_of s ≡ Malformed
+pub long-line : (s : List ℕ) → 83 < length s → line_of s ≡ None
 unfolding line_of
 long-line s h = by (eqb (length (fields_of s)) 6) refl where
   ps : List (List ℕ)
   ps = fields_of s
 
-  edit : Line
+  edit : Option Edit
   edit = edit_from (decimal_of (get_or ps 0 [])) (decimal_of (get_or ps 1 [])) (pattern_of (get_or ps 2 [])) (pattern_of (get_or ps 3 [])) (pattern_of (get_or ps 4 [])) (decimal_of (get_or ps 5 []))
 
-  by : (t : Bool) → eqb (length (fields_of s)) 6 ≡ t → cond t edit Malformed ≡ Malformed
+  by : (t : Bool) → eqb (length (fields_of s)) 6 ≡ t → cond t edit None ≡ None
   by true e =
       let six = room_six s ps refl (eqb-true _ _ e) in
       below 10 (length (get_or ps 0 [])) (λ k. no_row _ _ _ _ _ _ (decimal-long (get_or ps 0 []) k)) λ k₀.

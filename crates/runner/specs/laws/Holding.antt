@@ -1,13 +1,10 @@
 -- What the machine holds after k lines and a part of the next, and that each byte keeps it so. Assumes nothing.
-use Rattle.std.specs.Prelude.{◌≡◌, ℕ, suc, ◌+◌, ◌-◌, ◌^◌, ◌<◌, ◌≤◌, Bool, true, false, cond, not, List, [], ◌∷◌, ◌++◌, length, take, drop, replicate, ◌==◌, ◌≢◌, slice_set, refl}
+use Rattle.std.specs.Prelude.{◌≡◌, ℕ, suc, ◌+◌, ◌-◌, ◌^◌, ◌<◌, ◌≤◌, Bool, true, false, cond, not, Option, Some, None, List, [], ◌∷◌, ◌++◌, length, take, drop, replicate, ◌==◌, ◌≢◌, slice_set, refl}
 use Rattle.std.proofs.Math.Path.{sym, ap}
 use Rattle.std.proofs.Common.{◌∙◌, mod-eq_of_lt, add-one, arith, length-append, length-drop, length-set, take_at, take-suc-set, length-take-le, lt-ltb, le-ltb}
 use Rattle.std.proofs.Math.Nat.{sub-zero}
 use Rattle.std.proofs.lemmas.List.{length-replicate, replicate-append-replicate}
-use Rattle.line.specs.declared.Number.{Number}
-use Rattle.line.specs.declared.Number.TheVariants.{Value, Not}
-use Rattle.line.specs.declared.Line.{Line}
-use Rattle.line.specs.declared.Line.TheVariants.{Edit, Malformed}
+use Rattle.line.specs.declared.Edit.{Edit}
 use Rattle.line.specs.Line.{decimal_of, line_of}
 use Rattle.line.specs.laws.Long.{below, long-count, long-line}
 use Rattle.ledger.specs.Sheet.{size_for}
@@ -16,7 +13,7 @@ use Rattle.sheet.specs.Edit.{edit_refusal, edit_of}
 use Rattle.page.specs.Page.{largest}
 use Rattle.ending.specs.declared.outcome.State.{State}
 use Rattle.ending.specs.Outcome.{Outcome, Start, Sheet, Bad, ended_of}
-use Rattle.runner.specs.Run.{zeros, count_on, entry, edit_on, line_on, closed}
+use Rattle.runner.specs.Run.{zeros, count_on, entry_of, edit_on, line_on, closed}
 use Rattle.runner.specs.Machine.{longest, Held, Room, held, room, between, on_part, line_number, count_line, edit_line, take_line, longer_of, step_of, Stored, Begins}
 use Rattle.runner.specs.laws.Steps.{step_idle, step_end, end-long, end-taken, step_over, step_more}
 use Rattle.runner.specs.laws.Lengths.{length-zeros, length_blank, length_edit}
@@ -71,10 +68,10 @@ module _ (line : List ℕ) (buffer : length line ≡ longest) where
       (open_between (room (between (suc k) n false) line (on_part n f m)) (suc k) refl refl refl buffer, refl, part_stored (between (suc k) n false) m n f h whole refl keep)
   call_holds k n m f h whole keep false = (refl, refl)
 
-  count_holds : (m : List ℕ) → m ≡ zeros largest → (x : Number) → Holds (room (count_line 1 m x).st line (count_line 1 m x).sheet) 1 (count_on x) []
+  count_holds : (m : List ℕ) → m ≡ zeros largest → (x : Option ℕ) → Holds (room (count_line 1 m x).st line (count_line 1 m x).sheet) 1 (count_on x) []
   unfolding count_line count_on
-  count_holds m e Not = (refl, refl)
-  count_holds m e (Value r) =
+  count_holds m e None = (refl, refl)
+  count_holds m e (Some r) =
       below 1024 r
       (λ h. simp (lt-ltb 1024 r h) (refl, refl))
       (λ h.
@@ -84,15 +81,15 @@ module _ (line : List ℕ) (buffer : length line ≡ longest) where
       (rw (← part)
       (call_holds 0 (size_for r) m (λ s. blank_of s r) (omega arith) whole (length_blank (take (size_for r) m) r) (blank_refusal (take (size_for r) m) r == 0))))
 
-  edit_holds : (k : ℕ) (s m : List ℕ) (st : State) → Stored s st m → (x : Line)
+  edit_holds : (k : ℕ) (s m : List ℕ) (st : State) → Stored s st m → (x : Option Edit)
       → Holds (room (edit_line (suc k) st.size m x).st line (edit_line (suc k) st.size m x).sheet) (suc k) (edit_on (suc k) s x) []
   unfolding edit_line edit_on
-  edit_holds k s m st held Malformed = (refl, refl)
-  edit_holds k s m st held (Edit row f a b c times) =
+  edit_holds k s m st held None = (refl, refl)
+  edit_holds k s m st held (Some e) =
       let part : s ≡ take st.size m = sym held.bytes ∙ ap (λ (n : ℕ). take n m) (sym held.size) in
       rw part
-      (call_holds k st.size m (λ t. edit_of t row (entry f a b c times)) (omega (arith, held.size, held.fits)) held.whole (length_edit (take st.size m) row (entry f a b c times))
-      (edit_refusal (take st.size m) row f == 0))
+      (call_holds k st.size m (λ t. edit_of t e.row (entry_of e)) (omega (arith, held.size, held.fits)) held.whole (length_edit (take st.size m) e.row (entry_of e))
+      (edit_refusal (take st.size m) e.row e.function == 0))
 
 -- ---- one byte
 

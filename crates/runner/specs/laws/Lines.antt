@@ -1,10 +1,7 @@
 -- How many lines the machine counts: as many as there are line ends, as long as none was bad. Assumes nothing.
-use Rattle.std.specs.Prelude.{◌≡◌, ℕ, suc, ◌+◌, ◌^◌, ◌<◌, Bool, true, false, cond, List, [], ◌∷◌, length, take, ◌==◌, nat_lt, refl}
+use Rattle.std.specs.Prelude.{◌≡◌, ℕ, suc, ◌+◌, ◌^◌, ◌<◌, Bool, true, false, cond, Option, Some, None, List, [], ◌∷◌, length, take, ◌==◌, nat_lt, refl}
 use Rattle.std.proofs.Common.{sym, ap, ◌∙◌, mod-eq_of_lt, arith}
-use Rattle.line.specs.declared.Number.{Number}
-use Rattle.line.specs.declared.Number.TheVariants.{Value, Not}
-use Rattle.line.specs.declared.Line.{Line}
-use Rattle.line.specs.declared.Line.TheVariants.{Edit, Malformed}
+use Rattle.line.specs.declared.Edit.{Edit}
 use Rattle.line.specs.Line.{decimal_of, line_of}
 use Rattle.ending.specs.declared.outcome.State.{State}
 use Rattle.runner.specs.Machine.{longest, Held, Room, line_number, count_line, edit_line, take_line, end_of, join_of, step_of, feed_of}
@@ -31,13 +28,13 @@ either f false e g = g
 line-counted : (st : State) (s m : List ℕ) → (take_line st s m).st.lines ≡ line_number st
 unfolding take_line count_line edit_line
 line-counted st s m = either (λ (h : Held). h.st.lines) st.begun (edit (line_of s)) (count (decimal_of s)) where
-  count : (x : Number) → (count_line (line_number st) m x).st.lines ≡ line_number st
-  count Not = refl
-  count (Value r) = either (λ (h : Held). h.st.lines) (nat_lt 1024 r) refl refl
+  count : (x : Option ℕ) → (count_line (line_number st) m x).st.lines ≡ line_number st
+  count None = refl
+  count (Some r) = either (λ (h : Held). h.st.lines) (nat_lt 1024 r) refl refl
 
-  edit : (x : Line) → (edit_line (line_number st) st.size m x).st.lines ≡ line_number st
-  edit Malformed = refl
-  edit (Edit row function a b c times) = refl
+  edit : (x : Option Edit) → (edit_line (line_number st) st.size m x).st.lines ≡ line_number st
+  edit None = refl
+  edit (Some e) = refl
 
 end-counted : (w : Room) → (end_of w).st.lines ≡ line_number w.st
 unfolding end_of

@@ -1,5 +1,5 @@
 -- Digits that are written are read: of a decimal number, of an exponent, of a bit pattern. And a part of a line ends where its separator stands. Assumes nothing.
-use Rattle.std.specs.Prelude.{◌≡◌, Bool, cond, not, ◌&&◌, List, [], ◌∷◌, ◌++◌, length, get_or, eqb}
+use Rattle.std.specs.Prelude.{◌≡◌, Bool, cond, not, ◌&&◌, Some, None, List, [], ◌∷◌, ◌++◌, length, get_or, eqb}
 use Rattle.std.proofs.Math.Path.{refl, ap}
 use Rattle.std.proofs.Common.{sym, ◌∙◌, div-add-mod', div-lt_iff_lt-mul, le_trans, arith, length-append, lit≤, lt-ltb, le-ltb, eq-eqb, ne_eqb}
 use Prim.Native.Nat.{ℕ, zero, suc, ◌+◌, ◌*◌, ◌/◌, ◌%◌, ◌^◌, ◌≤◌, ◌<◌}
@@ -7,7 +7,6 @@ use Rattle.std.proofs.Math.Nat.{mod-lt, pow-suc, pow-zero}
 use Rattle.std.proofs.Math.Bool.{true, false}
 use Rattle.std.proofs.Math.ListN.{get_or-append}
 use Rattle.std.proofs.Math.Dec.{ltb}
-use Rattle.line.specs.declared.Number.TheVariants.{Value, Not}
 use Rattle.line.specs.Line.{digit_of, spell_of, decimal_of, pattern_of, onto, cut}
 use Rattle.line.specs.laws.Long.{below}
 use Rattle.text.specs.Text.{glyph_of, digits_of, decimal, pattern}
@@ -24,36 +23,36 @@ read_glyph d h =
     (λ large. simp (le-ltb d 10 large, le-ltb (87 + d) 48 (omega arith), le-ltb (87 + d) 58 (omega arith), le-ltb (87 + d) 97 (omega arith), lt-ltb (87 + d) 103 (omega arith)) (omega arith))
 
 -- one more digit at the end
-spell_more : (base n v g : ℕ) (xs : List ℕ) → digit_of g < base → spell_of base n xs ≡ Value v → spell_of base n (xs ++ (g ∷ [])) ≡ Value (v * base + digit_of g)
+spell_more : (base n v g : ℕ) (xs : List ℕ) → digit_of g < base → spell_of base n xs ≡ Some v → spell_of base n (xs ++ (g ∷ [])) ≡ Some (v * base + digit_of g)
 unfolding spell_of
 spell_more base n v g [] h e =
     let s : n ≡ v = cc in
     simp (lt-ltb (digit_of g) base h) (rw s refl)
 spell_more base n v g (x ∷ xs) h e = by (ltb (digit_of x) base) (spell_more base (n * base + digit_of x) v g xs h) e where
-  by : (t : Bool) → (spell_of base (n * base + digit_of x) xs ≡ Value v → spell_of base (n * base + digit_of x) (xs ++ (g ∷ [])) ≡ Value (v * base + digit_of g))
-      → cond t (spell_of base (n * base + digit_of x) xs) Not ≡ Value v → cond t (spell_of base (n * base + digit_of x) (xs ++ (g ∷ []))) Not ≡ Value (v * base + digit_of g)
+  by : (t : Bool) → (spell_of base (n * base + digit_of x) xs ≡ Some v → spell_of base (n * base + digit_of x) (xs ++ (g ∷ [])) ≡ Some (v * base + digit_of g))
+      → cond t (spell_of base (n * base + digit_of x) xs) None ≡ Some v → cond t (spell_of base (n * base + digit_of x) (xs ++ (g ∷ []))) None ≡ Some (v * base + digit_of g)
   by true rest f = rest f
   by false rest f = let z : ◌≡◌ {A = ℕ} 0 1 = cc in absurd (omega arith)
 
 -- a number's digits spell it
 module _ (all : Bool) (base : ℕ) (two : 1 < base) (small : base ≤ 16) where
-  spell_digits : (k n : ℕ) → n < base ^ k → spell_of base 0 (digits_of all base k n) ≡ Value n
+  spell_digits : (k n : ℕ) → n < base ^ k → spell_of base 0 (digits_of all base k n) ≡ Some n
   unfolding digits_of spell_of
   spell_digits zero n h =
       let none : n < 1 = rw pow-zero at h in
-      ap Value (omega arith)
+      ap Some (omega arith)
   spell_digits (suc k) n h = by (not all && ltb n base) refl (spell_digits k (n / base)) where
-    by : (t : Bool) → (not all && ltb n base) ≡ t → (n / base < base ^ k → spell_of base 0 (digits_of all base k (n / base)) ≡ Value (n / base))
-        → spell_of base 0 (cond t (glyph_of n ∷ []) (digits_of all base k (n / base) ++ (glyph_of (n % base) ∷ []))) ≡ Value n
+    by : (t : Bool) → (not all && ltb n base) ≡ t → (n / base < base ^ k → spell_of base 0 (digits_of all base k (n / base)) ≡ Some (n / base))
+        → spell_of base 0 (cond t (glyph_of n ∷ []) (digits_of all base k (n / base) ++ (glyph_of (n % base) ∷ []))) ≡ Some n
     by true e rest =
         let less : n < base = if_below all n base e in
-        rw (read_glyph n (omega arith)) (simp (lt-ltb n base less) (ap Value (omega arith)))
+        rw (read_glyph n (omega arith)) (simp (lt-ltb n base less) (ap Some (omega arith)))
     by false e rest =
         let less : n / base < base ^ k = (div-lt_iff_lt-mul {k = base} (omega arith)).1 (rw (← pow-suc base k) h) in
         let last : n % base < base = mod-lt n {m = base} (omega arith) in
         let is : digit_of (glyph_of (n % base)) ≡ n % base = read_glyph (n % base) (omega arith) in
         spell_more base 0 (n / base) (glyph_of (n % base)) (digits_of all base k (n / base)) (omega arith) (rest less)
-        ∙ ap Value (rw is (div-add-mod' n base))
+        ∙ ap Some (rw is (div-add-mod' n base))
 
 -- how many there are
 digits_some : (all : Bool) (base k n : ℕ) → 0 < length (digits_of all base (suc k) n)
@@ -68,7 +67,7 @@ unfolding digits_of
 digits_full base zero n = refl
 digits_full base (suc k) n = omega (arith, length-append (digits_of true base k (n / base)) (glyph_of (n % base) ∷ []), digits_full base k (n / base))
 
-pub read-pattern : (n : ℕ) → n < 2 ^ 64 → pattern_of (pattern n) ≡ Value n
+pub read-pattern : (n : ℕ) → n < 2 ^ 64 → pattern_of (pattern n) ≡ Some n
 unfolding pattern_of pattern
 read-pattern n h =
     let e : 2 ^ 64 ≤ 16 ^ 16 = lit≤ tt in
@@ -84,7 +83,7 @@ module _ (k n : ℕ) (pos : 0 < k) (room : k ≤ 20) (h : n < 10 ^ k) where
   decimal_few : length (decimal n) ≤ k
   decimal_few = rw is (digits-length false 10 k n)
 
-  spell_decimal : spell_of 10 0 (decimal n) ≡ Value n
+  spell_decimal : spell_of 10 0 (decimal n) ≡ Some n
   spell_decimal = rw is (spell_digits false 10 (omega arith) (omega arith) k n h)
 
 decimal_some : (n : ℕ) → 0 < length (decimal n)
@@ -127,7 +126,7 @@ zero_alone n h =
     and_false (ltb 1 (length (decimal n))) (eqb (get_or (decimal n) 0 0) 48)
     (ne_eqb (get_or (decimal n) 0 0) 48 (λ e. omega arith)))
 
-pub read-decimal : (n : ℕ) → n < 10 ^ 10 → decimal_of (decimal n) ≡ Value n
+pub read-decimal : (n : ℕ) → n < 10 ^ 10 → decimal_of (decimal n) ≡ Some n
 unfolding decimal_of
 read-decimal n h =
     let some = decimal_some n in
@@ -136,7 +135,7 @@ read-decimal n h =
     (spell_decimal 10 n (omega arith) (omega arith) h)
 
 -- an exponent of at most six digits
-pub read_power : (n : ℕ) → n < 10 ^ 6 → power_of (decimal n) ≡ Value n
+pub read_power : (n : ℕ) → n < 10 ^ 6 → power_of (decimal n) ≡ Some n
 unfolding power_of
 read_power n h =
     let some = decimal_some n in

@@ -1,5 +1,5 @@
 -- WHAT IS WRITTEN IS READ: the spelling of every bit pattern says that pattern, NaNs among them. So no two patterns have one spelling, and no reader that meets `read_of` refuses one. Assumes nothing.
-use Rattle.std.specs.Prelude.{◌≡◌, ℕ, suc, ◌+◌, ◌*◌, ◌-◌, ◌/◌, ◌^◌, ◌<◌, Bool, true, false, cond, not, ◌&&◌, List, [], ◌∷◌, ◌++◌, leb, eqb, drop}
+use Rattle.std.specs.Prelude.{◌≡◌, ℕ, suc, ◌+◌, ◌*◌, ◌-◌, ◌/◌, ◌^◌, ◌<◌, Bool, true, false, cond, not, ◌&&◌, Some, List, [], ◌∷◌, ◌++◌, leb, eqb, drop}
 use Rattle.std.proofs.Math.Path.{refl}
 use Rattle.std.proofs.Common.{ap, ◌∙◌, zero-add, mod-lt, mul-one, lit≤}
 use Rattle.std.proofs.Math.Nat.{add-zero}
@@ -10,7 +10,6 @@ use Rattle.std.proofs.Math.Pow.{field}
 use Rattle.std.specs.Float.Ieee.{round, to_bits, nan_bits}
 use borrow.Author.Tests.{lt-ltb, le-ltb, eq-eqb, ne_eqb, eqb-true, leb-true, leb-false, not-false}
 use Rattle.laws.specs.Ascii.{ascii}
-use Rattle.line.specs.declared.Number.TheVariants.{Value}
 use Rattle.line.specs.Line.{digit_of, spell_of}
 use Rattle.line.specs.laws.Long.{below}
 use Rattle.text.specs.Text.{glyph_of, digits_of, decimal, pattern}
@@ -22,7 +21,7 @@ use Rattle.spelt.specs.laws.Values.{Packed, back_down, back_up}
 
 -- ---- a NaN
 
-read-nan : (p : ℕ) → p < 2 ^ 64 → (eqb (field_of p) 2047 && not (eqb (fraction_of p) 0)) ≡ true → read_of (ascii "nan:" ++ pattern p) ≡ Value p
+read-nan : (p : ℕ) → p < 2 ^ 64 → (eqb (field_of p) 2047 && not (eqb (fraction_of p) 0)) ≡ true → read_of (ascii "nan:" ++ pattern p) ≡ Some p
 unfolding read_of same nan_of given nan_bits
 read-nan p h e = rw (read-pattern p h) (simp (field p 11 52, e))
 
@@ -34,7 +33,7 @@ record Reads (d fraction : ℕ) (s : List ℕ) : Type 0 where
   zeros : ℕ
   all : behind_of s + zeros ≡ 13
   no_exponent : Without 112 80 s
-  mantissa : mantissa_of s ≡ Value n
+  mantissa : mantissa_of s ≡ Some n
   is : n * 2 ^ (4 * zeros) ≡ d * 2 ^ 52 + fraction
 
 -- a digit, and behind it nothing or a point and other digits
@@ -88,17 +87,17 @@ module _ (negative : Bool) (p d fraction k : ℕ) (h : d < 16) (small : fraction
   unfolding s
   R = front_reads d fraction h small
 
-  read_down : k + e ≡ 1022 → float_of negative (glyph_of d ∷ (behind_text fraction ++ (ascii "p-" ++ decimal e))) ≡ Value p
+  read_down : k + e ≡ 1022 → float_of negative (glyph_of d ∷ (behind_text fraction ++ (ascii "p-" ++ decimal e))) ≡ Some p
   unfolding s scaled_by given
   read_down f =
       read_front negative d fraction s R (45 ∷ decimal e)
-      ∙ rw (read_power e (omega arith)) (ap Value (back_down negative p _ k P R.n (behind_of s) R.zeros R.all R.is e f))
+      ∙ rw (read_power e (omega arith)) (ap Some (back_down negative p _ k P R.n (behind_of s) R.zeros R.all R.is e f))
 
-  read_up : k ≡ e + 1022 → float_of negative (glyph_of d ∷ (behind_text fraction ++ (ascii "p+" ++ decimal e))) ≡ Value p
+  read_up : k ≡ e + 1022 → float_of negative (glyph_of d ∷ (behind_text fraction ++ (ascii "p+" ++ decimal e))) ≡ Some p
   unfolding s scaled_by given
   read_up f =
       read_front negative d fraction s R (43 ∷ decimal e)
-      ∙ rw (read_power e (omega (arith, P.scale))) (ap Value (back_up negative p _ k P R.n (behind_of s) R.zeros R.all R.is e f))
+      ∙ rw (read_power e (omega (arith, P.scale))) (ap Some (back_up negative p _ k P R.n (behind_of s) R.zeros R.all R.is e f))
 
 -- ---- every pattern
 
@@ -115,24 +114,24 @@ read-signed true t = refl
 read-signed false t = refl
 
 -- infinities and zeros, computed
-read_infinite : (negative : Bool) → read_of (signed negative (size_text 2047 0)) ≡ Value (joined negative 2047 0)
+read_infinite : (negative : Bool) → read_of (signed negative (size_text 2047 0)) ≡ Some (joined negative 2047 0)
 unfolding size_text read_of same
 read_infinite true = refl
 read_infinite false = refl
 
-read-zero : (negative : Bool) → read_of (signed negative (size_text 0 0)) ≡ Value (joined negative 0 0)
+read-zero : (negative : Bool) → read_of (signed negative (size_text 0 0)) ≡ Some (joined negative 0 0)
 unfolding size_text lead_of behind_text exponent_text digit_of spell_of same before hex_digit_of hex_of given power_of scaled_by behind_of mantissa_of float_of prefixed_of read_of round to_bits
 read-zero true = refl
 read-zero false = refl
 
 module _ (negative : Bool) (p f r : ℕ) (h : p < 2 ^ 64) (is : p ≡ joined negative f r) (small : r < 2 ^ 52) where
-  read_subnormal : f ≡ 0 → 0 < r → read_of (signed negative (size_text f r)) ≡ Value p
+  read_subnormal : f ≡ 0 → 0 < r → read_of (signed negative (size_text f r)) ≡ Some p
   unfolding size_text lead_of exponent_text decimal digits_of glyph_of
   read_subnormal a b =
       let P : Packed negative p (0 * 2 ^ 52 + r) 0 = record { width = h; is = omega arith; few = omega arith; scale = omega arith; lead = λ (z : 0 < 0). absurd (omega arith) } in
       rw (a, ne_eqb r 0 (λ e. omega arith)) (read-signed negative _ ∙ read_down negative p 0 r 0 (omega arith) small P 1022 refl)
 
-  read-normal : 0 < f → f < 2047 → read_of (signed negative (size_text f r)) ≡ Value p
+  read-normal : 0 < f → f < 2047 → read_of (signed negative (size_text f r)) ≡ Some p
   unfolding size_text lead_of exponent_text glyph_of
   read-normal a b =
       let P : Packed negative p (1 * 2 ^ 52 + r) (f - 1) = record { width = h; is = omega arith; few = omega arith; scale = omega arith; lead = λ _. omega arith } in
@@ -142,7 +141,7 @@ module _ (negative : Bool) (p f r : ℕ) (h : p < 2 ^ 64) (is : p ≡ joined neg
       (λ c. rw (lt-ltb f 1023 c) (read_down negative p 1 r (f - 1) (omega arith) small P (1023 - f) (omega arith)))
       (λ c. rw (le-ltb f 1023 c) (read_up negative p 1 r (f - 1) (omega arith) small P (f - 1023) (omega arith))))
 
-  read-size : f < 2 ^ 11 → (eqb f 2047 && not (eqb r 0)) ≡ false → read_of (signed negative (size_text f r)) ≡ Value p
+  read-size : f < 2 ^ 11 → (eqb f 2047 && not (eqb r 0)) ≡ false → read_of (signed negative (size_text f r)) ≡ Some p
   read-size most no_nan =
       below f 1
       (λ a.
@@ -163,10 +162,10 @@ parts p h = by (leb (2 ^ 63) p) refl where
   by true e = omega (arith, leb-true (2 ^ 63) p e)
   by false e = omega (arith, leb-false (2 ^ 63) p e)
 
-pub written_is_read : (p : ℕ) → p < 2 ^ 64 → read_of (spelled_of p) ≡ Value p
+pub written_is_read : (p : ℕ) → p < 2 ^ 64 → read_of (spelled_of p) ≡ Some p
 unfolding spelled_of sign_text
 written_is_read p h = by (eqb (field_of p) 2047 && not (eqb (fraction_of p) 0)) refl where
   by : (t : Bool) → (eqb (field_of p) 2047 && not (eqb (fraction_of p) 0)) ≡ t
-      → read_of (cond t (ascii "nan:" ++ pattern p) (sign_text p ++ size_text (field_of p) (fraction_of p))) ≡ Value p
+      → read_of (cond t (ascii "nan:" ++ pattern p) (sign_text p ++ size_text (field_of p) (fraction_of p))) ≡ Some p
   by true e = read-nan p h e
   by false e = read-size (leb (2 ^ 63) p) p (field_of p) (fraction_of p) h (parts p h) (mod-lt p (lit≤ tt)) (mod-lt (p / 2 ^ 52) (lit≤ tt)) e

@@ -1,12 +1,11 @@
 -- The digits behind the point spell the fraction, but for the zeros at its end. Assumes nothing.
-use Rattle.std.specs.Prelude.{◌≡◌, refl, ℕ, zero, suc, ◌+◌, ◌*◌, ◌/◌, ◌%◌, ◌^◌, ◌<◌, Bool, cond, ◌&&◌, List, [], ◌∷◌, ◌++◌, ltb, length}
+use Rattle.std.specs.Prelude.{◌≡◌, refl, ℕ, zero, suc, ◌+◌, ◌*◌, ◌/◌, ◌%◌, ◌^◌, ◌<◌, Bool, cond, ◌&&◌, Some, List, [], ◌∷◌, ◌++◌, ltb, length}
 use Rattle.std.proofs.Common.{sym, ap, ◌∙◌, add-zero, mul-div_cancel, mod-lt, div-add-mod', div-lt_iff_lt-mul, mul_assoc, mul_comm, mul-suc, zero-mul, arith, pow-add, pow_pos}
 use Rattle.std.proofs.Math.Nat.{mul-div-mul_right, mul-mod_left, eq_of_mul-eq-mul_right}
 use Rattle.std.proofs.Math.Bool.{true, false}
 use Rattle.std.proofs.Math.Arith.{mod-mul}
 use Rattle.std.proofs.Math.Dec.{eqb}
 use borrow.Author.Tests.{lt-ltb, le-ltb, ne_eqb, eqb-true}
-use Rattle.line.specs.declared.Number.TheVariants.{Value}
 use Rattle.line.specs.laws.Long.{below}
 use Rattle.text.specs.Text.{glyph_of}
 use Rattle.hexfloat.specs.Spelled.{digits_text}
@@ -58,7 +57,7 @@ pub record Spells (k r : ℕ) (s : List ℕ) : Type 0 where
   pub zeros : ℕ
   pub all : length s + zeros ≡ k
   pub no_exponent : Without 112 80 s
-  pub number : (m : ℕ) → (n : ℕ) × (hex_of m s ≡ Value n) × (n * 2 ^ (4 * zeros) ≡ m * 2 ^ (4 * k) + r)
+  pub number : (m : ℕ) → (n : ℕ) × (hex_of m s ≡ Some n) × (n * 2 ^ (4 * zeros) ≡ m * 2 ^ (4 * k) + r)
 
 pub none : (k : ℕ) → Spells k 0 []
 unfolding hex_of

@@ -1,25 +1,11 @@
--- The bytes passed are neither, so the first one is as far as from here.
-use native.Mathlib.Omega.{arith}
-use Rattle.hexfloat.proofs.Parts.{found, goes_on_lem, not_found}
+-- The first one's place, or the length.
+use Rattle.std.proofs.Common.{◌∙◌, ap, ℕ, Option, length}
+use Rattle.std.specs.Option.{unwrap_or}
+use Rattle.hexfloat.proofs.Parts.{before_is, before_within}
 use Rattle.hexfloat.proofs.bytes.find.Goals as goal
-
-pub loop-i-init : goal.loop-i-init
-loop-i-init c = (omega arith, omega arith)
-
-pub returns-then-s-i : goal.returns-then-s-i
-returns-then-s-i c =
-    let a = c.args in
-    let k = found a.a a.b a.s.now c.loop-i.i c.loop-i-test.true c.if-s-i.true in
-    (omega arith, omega arith)
-
-pub loop-i-preserved : goal.loop-i-preserved
-loop-i-preserved c =
-    let a = c.args in
-    let k = goes_on_lem a.a a.b a.s.now c.loop-i.i c.loop-i-test.true c.if-s-i.false in
-    (omega arith, omega arith)
 
 pub returns : goal.returns
 returns c =
     let a = c.args in
-    let k = not_found a.a a.b a.s.now c.loop-i.i c.loop-i-test.false in
-    (omega arith, omega arith)
+    let is = c.unwrap_or.ensures ∙ ap (λ (o : Option ℕ). unwrap_or o (length a.s.now)) c.place.ensures ∙ before_is a.a a.b a.s.now in
+    (is, rw is (before_within a.a a.b a.s.now))

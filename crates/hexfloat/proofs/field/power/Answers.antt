@@ -1,19 +1,18 @@
 -- Few digits are read as they are spelt.
-use mathlib.Core.Path.{refl, ◌∙◌}
-use native.Mathlib.Nat.{le_trans}
-use lib.Dec.{lit≤}
-use Rattle.laws.specs.Ladder.{held, passed}
+use Rattle.std.proofs.Common.{arith, lit≤}
+use Rattle.std.proofs.lemmas.Bool.Decides.{nat_tests}
 use Rattle.line.specs.laws.Few.{few}
 use Rattle.hexfloat.specs.Reading.{power_of}
-use Rattle.hexfloat.specs.laws.Sizes.{at_most}
 use Rattle.hexfloat.proofs.field.power.Goals as goal
 
-pub returns-then-s : goal.returns-then-s
+pub returns-in-1-to-6 : goal.returns-in-1-to-6
 unfolding power_of
-returns-then-s c = held _ _ c.if-s.true refl
+returns-in-1-to-6 c = let e = few 10 c.args.s.now (lit≤ tt) (omega arith) in grind (arith, nat_tests, e)
 
-pub returns : goal.returns
+pub returns-in_default : goal.returns-in_default
 unfolding power_of
-returns c =
-    let e = c.if-s.false in
-    passed _ _ e (c.read_digits.ensures ∙ few 10 _ (lit≤ tt) (le_trans (at_most 6 _ e) (lit≤ tt)))
+returns-in_default c = grind (arith, nat_tests)
+
+pub returns-in_default-2 : goal.returns-in_default-2
+unfolding power_of
+returns-in_default-2 c = grind (arith, nat_tests)

@@ -6,6 +6,3 @@ use Rattle.hexline.proofs.fields.bad.Given as goal
 
 abbrev pub invariant-loop-j : goal.invariant-loop-j
 invariant-loop-j l = bad_from l.line (8 - l.j) l.j ≡ bad_from l.line 8 0
-
-abbrev pub decreases-loop-j : goal.decreases-loop-j
-decreases-loop-j l = 8 - l.j

@@ -1,22 +1,22 @@
--- Test by test.
-use mathlib.Core.Path.{ap, ◌∙◌}
-use borrow.Author.Tests.{eq-eqb, ne_eqb}
-use Rattle.laws.specs.Ladder.{held, passed}
+-- Arm by arm.
+use mathlib.Core.Path.{refl, ap, ◌∙◌}
+use Rattle.std.proofs.Common.{arith}
+use Rattle.std.proofs.lemmas.Bool.Decides.{nat_tests}
 use Rattle.hexline.specs.Fields.{up_to, field_of}
 use Rattle.hexline.proofs.fields.field.Goals as goal
 
-pub returns-then-j-eq0 : goal.returns-then-j-eq0
+pub returns-in-0 : goal.returns-in-0
 unfolding field_of
-returns-then-j-eq0 c = held _ _ (eq-eqb _ _ c.if-j-eq0.true) (c.up_to.ensures ∙ ap (up_to _) c.decimal.ensures)
+returns-in-0 c = let e = c.up_to.ensures ∙ ap (up_to _) c.decimal.ensures in grind (arith, nat_tests, e)
 
-pub returns-then-j-eq4 : goal.returns-then-j-eq4
+pub returns-in-4 : goal.returns-in-4
 unfolding field_of
-returns-then-j-eq4 c = passed _ _ (ne_eqb _ _ c.if-j-eq0.false) (held _ _ (eq-eqb _ _ c.if-j-eq4.true) (c.up_to-then-j-eq4.ensures ∙ ap (up_to _) c.decimal-then-j-eq4.ensures))
+returns-in-4 c = let e = c.up_to-in-4.ensures ∙ ap (up_to _) c.decimal-in-4.ensures in grind (arith, nat_tests, e)
 
-pub returns-then-j-eq5 : goal.returns-then-j-eq5
+pub returns-in-5 : goal.returns-in-5
 unfolding field_of
-returns-then-j-eq5 c = passed _ _ (ne_eqb _ _ c.if-j-eq0.false) (passed _ _ (ne_eqb _ _ c.if-j-eq4.false) (held _ _ (eq-eqb _ _ c.if-j-eq5.true) c.decimal-then-j-eq5.ensures))
+returns-in-5 c = grind (arith, nat_tests)
 
-pub returns : goal.returns
+pub returns-in_default : goal.returns-in_default
 unfolding field_of
-returns c = passed _ _ (ne_eqb _ _ c.if-j-eq0.false) (passed _ _ (ne_eqb _ _ c.if-j-eq4.false) (passed _ _ (ne_eqb _ _ c.if-j-eq5.false) c.read_float.ensures))
+returns-in_default c = grind (arith, nat_tests)

@@ -1,20 +1,20 @@
 -- Test by test.
 use mathlib.Core.Path.{refl}
-use borrow.Author.Tests.{lt-ltb, le-ltb, le-leb, lt-leb}
+use borrow.Author.Tests.{le-leb, lt-leb}
 use Rattle.laws.specs.Ladder.{held, passed}
-use Rattle.hexline.specs.Fields.{stop_of}
+use Rattle.hexline.specs.Fields.{bad_from, stop_at, stop_of}
 use Rattle.hexline.proofs.fields.stop.Goals as goal
 
-pub returns-then-j-lt8 : goal.returns-then-j-lt8
-unfolding stop_of
-returns-then-j-lt8 c = let b = c.bad-j.ensures in held _ _ (lt-ltb _ _ (rw b at c.if-j-lt8.true)) (rw b at c.column.ensures)
+pub returns-in-Some : goal.returns-in-Some
+unfolding stop_of stop_at
+returns-in-Some c = rw (← c.in-Some.ensures, c.column.ensures) refl
 
 pub returns-then-ninth-line : goal.returns-then-ninth-line
-unfolding stop_of
+unfolding stop_of stop_at
 returns-then-ninth-line c =
-    let p = c.place-ninth.ensures in
-    passed _ _ (le-ltb _ _ (rw c.bad-j.ensures at c.if-j-lt8.false)) (held _ _ (le-leb _ _ (rw p at c.if-ninth-line.true)) p)
+    rw (← c.in_default.ensures) (rw (← c.place-ninth.ensures) (held _ _ (le-leb _ _ c.if-ninth-line.true) refl))
 
-pub returns : goal.returns
-unfolding stop_of
-returns c = passed _ _ (le-ltb _ _ (rw c.bad-j.ensures at c.if-j-lt8.false)) (passed _ _ (lt-leb _ _ (rw c.place-ninth.ensures at c.if-ninth-line.false)) refl)
+pub returns-else-ninth-line : goal.returns-else-ninth-line
+unfolding stop_of stop_at
+returns-else-ninth-line c =
+    rw (← c.in_default.ensures) (rw (← c.place-ninth.ensures) (passed _ _ (lt-leb _ _ c.if-ninth-line.false) refl))

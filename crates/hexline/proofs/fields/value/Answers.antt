@@ -1,11 +1,9 @@
--- One of the two.
-use Rattle.hexline.specs.Fields.{number_of, value_in}
+-- What the field says, or 0.
+use Rattle.std.proofs.Common.{ap, ◌∙◌, ℕ, Option}
+use Rattle.std.specs.Option.{unwrap_or}
+use Rattle.hexline.specs.Fields.{value_in}
 use Rattle.hexline.proofs.fields.value.Goals as goal
 
-pub returns-in-Not : goal.returns-in-Not
-unfolding value_in number_of
-returns-in-Not c = rw (← c.says.ensures, c.in-Not.is)
-
-pub returns-in-Value : goal.returns-in-Value
-unfolding value_in number_of
-returns-in-Value c = rw (← c.says.ensures, c.in-Value.is)
+pub returns : goal.returns
+unfolding value_in
+returns c = c.unwrap_or.ensures ∙ ap (λ (o : Option ℕ). unwrap_or o 0) c.says.ensures

@@ -12,19 +12,16 @@ one_more_lem : (e : ℕ) (s : List ℕ) (i at r : ℕ) → at ≡ place_of e s i
 unfolding place_of
 one_more_lem e s i at r p q = rw add-one (q ∙ ap (next_of e s) p)
 
-pub loop-i-init : goal.loop-i-init
+pub loop-init : goal.loop-init
 unfolding place_of
-loop-i-init c = (refl, omega arith)
+loop-init c = refl
 
-pub loop-i-preserved : goal.loop-i-preserved
-loop-i-preserved c =
-    let l = c.loop-i in
-    let a = c.args in
-    (one_more_lem a.e a.s.now l.i l.at _ l.invariant.0 c.next-at.ensures, omega arith)
+pub loop-preserved : goal.loop-preserved
+loop-preserved c =
+    let l = c.loop in
+    one_more_lem c.args.e c.args.s.now l.counter l.at _ l.invariant c.next-at.ensures
 
 pub returns : goal.returns
 returns c =
-    let l = c.loop-i in
-    let a = c.args in
-    let all : l.i ≡ a.j = omega arith in
-    l.invariant.0 ∙ ap (place_of a.e a.s.now) all
+    let all : c.loop.counter ≡ c.args.j = omega arith in
+    c.loop.invariant ∙ ap (place_of c.args.e c.args.s.now) all

@@ -4,42 +4,46 @@ use Prim.Native.Nat.{◌+◌, ◌*◌}
 use native.Mathlib.Nat.{min-eq_left, min-le_right}
 use native.Mathlib.Omega.{arith}
 use lib.ListN.{drop}
-use Rattle.line.specs.declared.Number.TheVariants.{Value}
-use Rattle.line.proofs.Spelling.{no_digit, one_more_lem, no_more}
+use lib.Dec.{lit≤}
+use Rattle.std.specs.Prelude.{Some}
+use Rattle.line.proofs.Spelling.{no_digit, not_one, one_more_lem, no_more}
 use Rattle.hextext.specs.HexText.{capped}
 use Rattle.hextext.specs.laws.Capped.{cut-same, cut_twice}
 use Rattle.hextext.proofs.count.digits.Goals as goal
 
-pub loop-i-init : goal.loop-i-init
-loop-i-init c = (refl, omega arith, omega arith)
+pub loop-b-init : goal.loop-b-init
+loop-b-init c = (refl, omega arith)
+
+pub returns-in_err-d : goal.returns-in_err-d
+unfolding capped
+returns-in_err-d c =
+    let l = c.loop-b in
+    c.from_residual.ensures ∙ sym (ap capped (not_one 10 l.n c.args.s.now l.b-index c.loop-b-test.true (lit≤ tt) c.in_err-d.ensures)) ∙ l.invariant.0
 
 pub returns-then-d-ge10 : goal.returns-then-d-ge10
 unfolding capped
 returns-then-d-ge10 c =
-    let l = c.loop-i in
-    let s = c.args.s.now in
-    sym (ap capped (no_digit 10 l.n _ s l.i c.loop-i-test.true c.digit-d.ensures c.if-d-ge10.true)) ∙ l.invariant.0
+    let l = c.loop-b in
+    sym (ap capped (no_digit 10 l.n _ c.args.s.now l.b-index c.loop-b-test.true c.in_ok-d.ensures c.if-d-ge10.true)) ∙ l.invariant.0
 
 pub overflow_mul-n : goal.overflow_mul-n
-overflow_mul-n c = let l = c.loop-i.invariant in record { fits = omega arith }
+overflow_mul-n c = let l = c.loop-b.invariant in record { fits = omega arith }
 
 pub overflow_add-n : goal.overflow_add-n
-overflow_add-n c = let l = c.loop-i.invariant in record { fits = omega (arith, c.if-d-ge10.false) }
+overflow_add-n c = let l = c.loop-b.invariant in record { fits = omega (arith, c.if-d-ge10.false) }
 
-pub loop-i-preserved : goal.loop-i-preserved
-loop-i-preserved c =
-    let l = c.loop-i in
+pub loop-b-preserved : goal.loop-b-preserved
+loop-b-preserved c =
+    let l = c.loop-b in
     let s = c.args.s.now in
-    let d = c.digit-d in
-    let more = one_more_lem 10 l.n _ s l.i c.loop-i-test.true d.ensures c.if-d-ge10.false in (
-      cut-same (drop (l.i + 1) s) _ _ (cut_twice _ _ c.cut-n.ensures) ∙ sym (ap capped more) ∙ l.invariant.0,
-      omega arith,
-      rw c.cut-n.ensures (min-le_right (l.n * 10 + d.result) 1025),
+    let d = c.in_ok-d in
+    let more = one_more_lem 10 l.n _ s l.b-index c.loop-b-test.true d.ensures c.if-d-ge10.false in (
+      cut-same (drop (l.b-index + 1) s) _ _ (cut_twice _ _ c.min-n.ensures) ∙ sym (ap capped more) ∙ l.invariant.0,
+      rw c.min-n.ensures (min-le_right (l.n * 10 + d.d) 1025),
     )
 
 pub returns : goal.returns
 unfolding capped
 returns c =
-    let l = c.loop-i in
-    let s = c.args.s.now in
-    ap Value (sym (min-eq_left l.invariant.2)) ∙ sym (ap capped (no_more 10 l.n s l.i c.loop-i-test.false)) ∙ l.invariant.0
+    let l = c.loop-b in
+    ap Some (sym (min-eq_left l.invariant.1)) ∙ sym (ap capped (no_more 10 l.n c.args.s.now l.b-index (omega arith))) ∙ l.invariant.0

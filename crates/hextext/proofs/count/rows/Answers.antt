@@ -1,17 +1,24 @@
 -- No digit, a zero in front, or the digits.
-use mathlib.Core.Path.{refl}
-use borrow.Author.Tests.{eq-eqb, ne_eqb}
+use Rattle.std.proofs.Common.{◌≡◌, ap, ◌∙◌, arith}
+use Rattle.std.proofs.lemmas.Bool.Decides.{nat_tests}
+use Rattle.line.specs.Line.{spell_of}
+use Rattle.hexline.specs.Parts.{part_at}
 use Rattle.hextext.specs.HexText.{count_of, capped}
 use Rattle.hextext.proofs.count.rows.Goals as goal
+use Rattle.hextext.proofs.count.rows.Goals.{in_default-via-then-s-lt2, in_default-via-else-s-lt2+in_default-1}
 
-pub returns-then-s-eq0 : goal.returns-then-s-eq0
-unfolding count_of capped
-returns-then-s-eq0 c = rw (← c.part-s.ensures) (simp (eq-eqb _ 0 c.if-s-eq0.true))
-
-pub returns-then-s : goal.returns-then-s
-unfolding count_of capped
-returns-then-s c = rw (← c.part-s.ensures) (rw (ne_eqb _ 0 c.if-s-eq0.false, c.if-s.true) refl)
-
-pub returns : goal.returns
+pub returns-in_default : goal.returns-in_default
 unfolding count_of
-returns c = rw (← c.part-s.ensures) (rw (ne_eqb _ 0 c.if-s-eq0.false, c.if-s.false) c.digits.ensures)
+returns-in_default c =
+    let s = c.part-s.result.now in
+    let e : spell_of 10 0 s ≡ count_of s =
+        elim c.in_default.branch [ in_default-via-then-s-lt2 w ↦ grind (arith, nat_tests) | in_default-via-else-s-lt2+in_default-1 w ↦ grind (arith, nat_tests) ] in
+    c.digits.ensures ∙ ap capped (e ∙ ap count_of c.part-s.ensures)
+
+pub returns-in-empty : goal.returns-in-empty
+unfolding count_of capped
+returns-in-empty c = rw (← c.part-s.ensures) (grind (arith, nat_tests))
+
+pub returns-in-empty-2 : goal.returns-in-empty-2
+unfolding count_of capped
+returns-in-empty-2 c = rw (← c.part-s.ensures) (grind (arith, nat_tests))

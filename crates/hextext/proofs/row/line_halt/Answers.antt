@@ -1,24 +1,23 @@
 -- Does not read, goes out, differs; or none of them.
 use borrow.Author.Tests.{eq-eqb, ne_eqb}
-use Rattle.hextext.specs.HexText.{line_halt}
+use Rattle.hextext.specs.HexText.{halts_at, line_halt}
 use Rattle.hextext.proofs.row.line_halt.Goals as goal
 
-pub returns-then-at-ne0 : goal.returns-then-at-ne0
-unfolding line_halt
-returns-then-at-ne0 c = rw (← c.stop-at.ensures, ne_eqb _ 0 c.if-at-ne0.true) c.halted.ensures
+pub returns-in-Some : goal.returns-in-Some
+unfolding line_halt halts_at
+returns-in-Some c = rw (← c.in-Some.ensures) c.halted.ensures
 
 pub returns-then-value-eq-WITHDRAWN : goal.returns-then-value-eq-WITHDRAWN
-unfolding line_halt
-returns-then-value-eq-WITHDRAWN c = rw (← c.stop-at.ensures, eq-eqb _ 0 c.if-at-ne0.false) (rw (← c.value.ensures, eq-eqb _ 1 c.if-value-eq-WITHDRAWN.true) c.halted-then-value-eq-WITHDRAWN.ensures)
+unfolding line_halt halts_at
+returns-then-value-eq-WITHDRAWN c =
+    rw (← c.in_default.ensures) (rw (← c.value.ensures, eq-eqb _ 1 c.if-value-eq-WITHDRAWN.true) c.halted-then-value-eq-WITHDRAWN.ensures)
 
-pub returns-then-at-ne0-2 : goal.returns-then-at-ne0-2
-unfolding line_halt
-returns-then-at-ne0-2 c =
-    rw (← c.stop-at.ensures, eq-eqb _ 0 c.if-at-ne0.false)
-    (rw (← c.value.ensures, ne_eqb _ 1 c.if-value-eq-WITHDRAWN.false) (rw (← c.differ-at.ensures, ne_eqb _ 0 c.if-at-ne0-2.true) c.halted-then-at-ne0-2.ensures))
+pub returns-in-Some-differ : goal.returns-in-Some-differ
+unfolding line_halt halts_at
+returns-in-Some-differ c =
+    rw (← c.in_default.ensures) (rw (← c.value.ensures, ne_eqb _ 1 c.if-value-eq-WITHDRAWN.false) (rw (← c.in-Some-differ.ensures) c.halted-in-Some-differ.ensures))
 
 pub returns : goal.returns
-unfolding line_halt
+unfolding line_halt halts_at
 returns c =
-    rw (← c.stop-at.ensures, eq-eqb _ 0 c.if-at-ne0.false)
-    (rw (← c.value.ensures, ne_eqb _ 1 c.if-value-eq-WITHDRAWN.false) (rw (← c.differ-at.ensures, eq-eqb _ 0 c.if-at-ne0-2.false) c.halted-2.ensures))
+    rw (← c.in_default.ensures) (rw (← c.value.ensures, ne_eqb _ 1 c.if-value-eq-WITHDRAWN.false) (rw (← c.in_default-differ.ensures) c.halted-2.ensures))

@@ -1,29 +1,26 @@
 -- Each test of the code is a test of the definition.
-use borrow.Author.Tests.{lt-ltb, le-ltb, eq-eqb, ne_eqb}
-use Rattle.laws.specs.Ladder.{held, passed}
-use mathlib.Core.Path.{refl, ◌∙◌}
-use native.Mathlib.Nat.{le_trans}
+use Rattle.std.proofs.Common.{arith}
+use Rattle.std.proofs.lemmas.Bool.Decides.{nat_tests}
 use lib.Dec.{lit≤}
 use Rattle.line.specs.Line.{decimal_of}
 use Rattle.line.specs.laws.Few.{few}
 use Rattle.line.proofs.digits.decimal.Goals as goal
-
-pub returns-then-s-eq0 : goal.returns-then-s-eq0
-unfolding decimal_of
-returns-then-s-eq0 c = held _ _ (eq-eqb _ _ c.if-s-eq0.true) refl
+use Rattle.line.proofs.digits.decimal.Goals.{in_default-via-then-s-lt2, in_default-via-else-s-lt2+in_default-1}
 
 pub returns-then-s-gt10 : goal.returns-then-s-gt10
 unfolding decimal_of
-returns-then-s-gt10 c = passed _ _ (ne_eqb _ _ c.if-s-eq0.false) (held _ _ (lt-ltb _ _ c.if-s-gt10.true) refl)
+returns-then-s-gt10 c = grind (arith, nat_tests)
 
-pub returns-then-s : goal.returns-then-s
+pub returns-in_default : goal.returns-in_default
 unfolding decimal_of
-returns-then-s c =
-    passed _ _ (ne_eqb _ _ c.if-s-eq0.false)
-    (passed _ _ (le-ltb _ _ c.if-s-gt10.false) (held _ _ c.if-s.true refl))
+returns-in_default c =
+    let e = few 10 c.args.s.now (lit≤ tt) (omega arith) in
+    elim c.in_default.branch [ in_default-via-then-s-lt2 w ↦ grind (arith, nat_tests, e) | in_default-via-else-s-lt2+in_default-1 w ↦ grind (arith, nat_tests, e) ]
 
-pub returns : goal.returns
+pub returns-in-empty : goal.returns-in-empty
 unfolding decimal_of
-returns c =
-    passed _ _ (ne_eqb _ _ c.if-s-eq0.false)
-    (passed _ _ (le-ltb _ _ c.if-s-gt10.false) (passed _ _ c.if-s.false (c.read_digits.ensures ∙ few 10 _ (lit≤ tt) (le_trans c.if-s-gt10.false (lit≤ tt)))))
+returns-in-empty c = grind (arith, nat_tests)
+
+pub returns-in-empty-2 : goal.returns-in-empty-2
+unfolding decimal_of
+returns-in-empty-2 c = grind (arith, nat_tests)

@@ -1,37 +1,25 @@
--- Each test of the code is a test of the definition.
-use borrow.Author.Tests.{lt-ltb, le-ltb}
-use Rattle.line.specs.Line.{digit_of}
+-- Each arm of the code is a test of the definition.
+use Rattle.std.proofs.Common.{arith}
+use Rattle.std.proofs.lemmas.Bool.Decides.{nat_tests}
+use Rattle.line.specs.Line.{digit_of, digit_value}
 use Rattle.line.proofs.digits.digit.Goals as goal
 
-pub returns-then-b-lt48 : goal.returns-then-b-lt48
-unfolding digit_of
-returns-then-b-lt48 c = simp (lt-ltb _ _ c.if-b-lt48.true)
+pub returns-in-48-to-57 : goal.returns-in-48-to-57
+unfolding digit_of digit_value
+returns-in-48-to-57 c = grind (arith, nat_tests)
 
-pub returns-then-b-lt58 : goal.returns-then-b-lt58
-unfolding digit_of
-returns-then-b-lt58 c = rw c.wide.ensures (simp (le-ltb _ _ c.if-b-lt48.false, lt-ltb _ _ c.if-b-lt58.true))
+pub returns-in-97-to-102 : goal.returns-in-97-to-102
+unfolding digit_of digit_value
+returns-in-97-to-102 c = grind (arith, nat_tests)
 
-pub returns-then-b-lt97 : goal.returns-then-b-lt97
-unfolding digit_of
-returns-then-b-lt97 c = simp (le-ltb _ _ c.if-b-lt48.false, le-ltb _ _ c.if-b-lt58.false, lt-ltb _ _ c.if-b-lt97.true)
+pub returns-in_default : goal.returns-in_default
+unfolding digit_of digit_value
+returns-in_default c = grind (arith, nat_tests)
 
-pub returns-then-b-lt103 : goal.returns-then-b-lt103
-unfolding digit_of
-returns-then-b-lt103 c =
-    rw c.wide-then-b-lt103.ensures
-    (simp (
-      le-ltb _ _ c.if-b-lt48.false,
-      le-ltb _ _ c.if-b-lt58.false,
-      le-ltb _ _ c.if-b-lt97.false,
-      lt-ltb _ _ c.if-b-lt103.true,
-    ))
+pub returns-in_default-2 : goal.returns-in_default-2
+unfolding digit_of digit_value
+returns-in_default-2 c = grind (arith, nat_tests)
 
-pub returns : goal.returns
-unfolding digit_of
-returns c =
-    simp (
-      le-ltb _ _ c.if-b-lt48.false,
-      le-ltb _ _ c.if-b-lt58.false,
-      le-ltb _ _ c.if-b-lt97.false,
-      le-ltb _ _ c.if-b-lt103.false,
-    )
+pub returns-in_default-3 : goal.returns-in_default-3
+unfolding digit_of digit_value
+returns-in_default-3 c = grind (arith, nat_tests)

@@ -10,7 +10,7 @@ returns-in_default c =
 pub returns-then-rows : goal.returns-then-rows
 returns-then-rows c =
     let a = c.args in
-    rw c.between-then-rows.ensures (count_many a.k a.sheet.now c.decimal.ensures c.in-Value.rows c.in-Value.is c.if-rows.true)
+    rw c.between-then-rows.ensures (count_many a.k a.sheet.now c.decimal.ensures c.in-Some.rows c.in-Some.is c.if-rows.true)
 
 pub returns : goal.returns
 returns c =
@@ -18,4 +18,4 @@ returns c =
     let n = c.size_for-n in
     let q = c.make_blank-refusal in
     rw c.between-2.ensures
-    (count_made a.k a.sheet.now c.decimal.ensures c.in-Value.rows q.result n.result c.in-Value.is c.if-rows.false n.ensures q.ensures.0 q.ensures.1)
+    (count_made a.k a.sheet.now c.decimal.ensures c.in-Some.rows q.result n.result c.in-Some.is c.if-rows.false n.ensures q.ensures.0 q.ensures.1)

@@ -13,5 +13,5 @@ returns c =
     let n = c.least-n in
     let q = c.edit-refusal in
     rw c.between-2.ensures
-    (edit_made a.k a.size a.sheet.now c.read_edit.ensures _ _ _ _ _ _ n.result q.result c.in-Edit.is
+    (edit_made a.k a.size a.sheet.now c.read_edit.ensures _ n.result q.result c.in-Some.is
     n.ensures q.ensures.0 q.ensures.1)

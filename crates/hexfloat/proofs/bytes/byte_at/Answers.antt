@@ -1,7 +1,0 @@
--- Past the end there is none.
-use mathlib.Core.Path.{sym}
-use lib.ListN.{get_or-eq_default}
-use Rattle.hexfloat.proofs.bytes.byte_at.Goals as goal
-
-pub returns : goal.returns
-returns c = sym (get_or-eq_default c.args.s.now 0 {n = c.args.i} c.if-i-s.false)

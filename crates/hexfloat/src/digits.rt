@@ -6,18 +6,19 @@ ghost use Rattle.hexfloat.specs.Steps.{no_digits, with_digit, held_from, scaled_
 // 128 bits of the digits so far, how many were dropped behind those, and whether one of them was not 0.
 #[derive(Clone, Copy)]
 pub(crate) struct Held {
-    pub(crate) high: u64,
-    pub(crate) low: u64,
+    pub(crate) digits: u128,
     pub(crate) more: bool,
     pub(crate) dropped: u64,
 }
+
+// Below this there is room for one digit more in 128 bits.
+const ROOM: u128 = 0x1000_0000_0000_0000_0000_0000_0000_0000;
 
 pub(crate) fn no_digits() -> Held
     ensures { result ≡ no_digits }
 {
     Held {
-        high: 0,
-        low: 0,
+        digits: 0,
         more: false,
         dropped: 0,
     }
@@ -37,19 +38,16 @@ fn with_digit(h: Held, d: u64) -> Held
     requires { (d < 16) × (h.dropped < 64) }
     ensures { result ≡ with_digit h d }
 {
-    if h.high < 0x1000_0000_0000_0000 {
+    if h.digits < ROOM {
         return Held {
-            high: h.high * 16 + h.low / 0x1000_0000_0000_0000,
-            low: h.low % 0x1000_0000_0000_0000 * 16 + d,
-            more: h.more,
-            dropped: h.dropped,
+            digits: h.digits * 16 + u128::from(d),
+            ..h
         };
     }
     Held {
-        high: h.high,
-        low: h.low,
         more: h.more | (0 < d),
         dropped: h.dropped + 1,
+        ..h
     }
 }
 
@@ -74,6 +72,5 @@ pub(crate) fn scaled(negative: bool, h: Held, up: u64, down: u64) -> f64
     if 2340 + up < down {
         return bits::rounded(negative, 0, false, 0);
     }
-    let digits = (u128::from(h.high) << 64) + u128::from(h.low);
-    bits::rounded(negative, digits, h.more, 2340 + up - down + 4 * h.dropped)
+    bits::rounded(negative, h.digits, h.more, 2340 + up - down + 4 * h.dropped)
 }

@@ -1,6 +1,6 @@
 -- Digits held are the number that they spell. Assumes nothing.
-use Rattle.std.specs.Prelude.{◌≡◌, refl, ℕ, zero, suc, ◌+◌, ◌*◌, ◌/◌, ◌%◌, ◌^◌, ◌≤◌, ◌<◌, Bool, true, false, cond, ◌||◌, Option, Some, None, List, [], ◌∷◌, ◌++◌, ltb, length}
-use Rattle.std.proofs.Common.{sym, ap, ◌∙◌, div-one, div-add-mod', arith, ltb-true, ltb-false}
+use Rattle.std.specs.Prelude.{◌≡◌, refl, ℕ, zero, suc, ◌+◌, ◌*◌, ◌^◌, ◌≤◌, ◌<◌, Bool, true, false, cond, ◌||◌, Option, Some, None, List, [], ◌∷◌, ◌++◌, ltb, length}
+use Rattle.std.proofs.Common.{sym, ap, ◌∙◌, div-one, arith, ltb-true, ltb-false}
 use Rattle.std.proofs.Math.Nat.{mod-one}
 use Rattle.std.specs.Option.{option_and_then}
 use Rattle.std.proofs.lemmas.Option.{same_Some}
@@ -20,10 +20,10 @@ all_held n w m K = (sym (div-one n) ∙ K.whole, sym K.rest ∙ ap (ltb 0) (mod-
 itself : (n : ℕ) → Kept n n 0 false
 itself n = record { whole = div-one n; rest = ap (ltb 0) (mod-one n) }
 
-none_dropped : (n : ℕ) (h : Held) → Holds n h → h.high < 2 ^ 60 → h.dropped ≡ 0
+none_dropped : (n : ℕ) (h : Held) → Holds n h → h.digits < 2 ^ 124 → h.dropped ≡ 0
 none_dropped n h H l = go h.dropped H.full
   where
-    go : (k : ℕ) → (0 < k → 2 ^ 60 ≤ h.high) → k ≡ 0
+    go : (k : ℕ) → (0 < k → 2 ^ 124 ≤ h.digits) → k ≡ 0
     go zero f = refl
     go (suc k) f = let x = f (omega arith) in absurd (omega arith)
 
@@ -42,38 +42,32 @@ behind n w e d m l K =
     or_comm false true = refl
     or_comm false false = refl
 
-sixteen_fold : (a b d : ℕ) → (a * 16 + b / 2 ^ 60) * 2 ^ 64 + (b % 2 ^ 60 * 16 + d) ≡ (a * 2 ^ 64 + b) * 16 + d
-sixteen_fold a b d = go (b / 2 ^ 60) (b % 2 ^ 60) (div-add-mod' b (2 ^ 60))
-  where
-    go : (q r : ℕ) → q * 2 ^ 60 + r ≡ b → (a * 16 + q) * 2 ^ 64 + (r * 16 + d) ≡ (a * 2 ^ 64 + b) * 16 + d
-    go q r e = omega arith
-
 four_more : (k : ℕ) → 4 * (k + 1) ≡ 4 * k + 4
 four_more k = omega arith
 
 pub holds_more : (n : ℕ) (h : Held) (d : ℕ) → d < 16 → Holds n h → Holds (n * 16 + d) (with_digit h d)
 unfolding with_digit
-holds_more n h d l H = go (ltb h.high (2 ^ 60)) refl
+holds_more n h d l H = go (ltb h.digits (2 ^ 124)) refl
   where
-    go : (t : Bool) → ltb h.high (2 ^ 60) ≡ t
-        → Holds (n * 16 + d) (when t gives record { high = h.high * 16 + h.low / 2 ^ 60; low = h.low % 2 ^ 60 * 16 + d; more = h.more; dropped = h.dropped } else
-        record { high = h.high; low = h.low; more = h.more || ltb 0 d; dropped = h.dropped + 1 })
+    go : (t : Bool) → ltb h.digits (2 ^ 124) ≡ t
+        → Holds (n * 16 + d) (when t gives record { digits = h.digits * 16 + d; more = h.more; dropped = h.dropped } else
+        record { digits = h.digits; more = h.more || ltb 0 d; dropped = h.dropped + 1 })
     go true e =
-        let z = none_dropped n h H (ltb-true h.high (2 ^ 60) e) in
-        let k : Kept n (h.high * 2 ^ 64 + h.low) 0 h.more = rw z at H.kept in
-        let a = all_held n (h.high * 2 ^ 64 + h.low) h.more k in
+        let z = none_dropped n h H (ltb-true h.digits (2 ^ 124) e) in
+        let k : Kept n h.digits 0 h.more = rw z at H.kept in
+        let a = all_held n h.digits h.more k in
         record {
-          kept = rw (z, a.1) (rw (sixteen_fold h.high h.low d ∙ ap (λ (x : ℕ). x * 16 + d) (sym a.0)) (itself (n * 16 + d)));
+          kept = rw (z, a.1) (rw (ap (λ (x : ℕ). x * 16 + d) (sym a.0)) (itself (n * 16 + d)));
           full = λ (p : 0 < h.dropped). absurd (omega arith);
         }
-    go false e = record { kept = rw (four_more h.dropped) (behind n _ (4 * h.dropped) d h.more l H.kept); full = λ _. ltb-false h.high (2 ^ 60) e }
+    go false e = record { kept = rw (four_more h.dropped) (behind n _ (4 * h.dropped) d h.more l H.kept); full = λ _. ltb-false h.digits (2 ^ 124) e }
 
 -- ---- all of them
 
 -- one more digit drops one at most
 pub dropped_more : (h : Held) (d : ℕ) → (with_digit h d).dropped ≤ h.dropped + 1
 unfolding with_digit
-dropped_more h d = go (ltb h.high (2 ^ 60)) _ _ (omega arith) (omega arith)
+dropped_more h d = go (ltb h.digits (2 ^ 124)) _ _ (omega arith) (omega arith)
   where
     go : (t : Bool) (a b : Held) → a.dropped ≤ h.dropped + 1 → b.dropped ≤ h.dropped + 1 → (cond t a b).dropped ≤ h.dropped + 1
     go true a b p q = p

@@ -57,20 +57,20 @@ moved n e down up q =
 kept_up : (n w e j : ℕ) (m : Bool) → Kept n w e m → Kept (n * 2 ^ j) w (j + e) m
 kept_up n w e j m K = rw (add_comm j e) (kept_scaled n w e j m K)
 
-many : (a b : ℕ) → 2 ^ 60 ≤ a → 2 ^ 53 ≤ a * 2 ^ 64 + b
-many a b h = omega arith
+many : (a : ℕ) → 2 ^ 124 ≤ a → 2 ^ 53 ≤ a
+many a h = le_trans (lit≤ tt) h
 
 -- ---- the law
 module _ (s : Bool) (n : ℕ) (h : Held) (H : Holds n h) (small : n < 2 ^ 160) (up down : ℕ) where
-  rounded_held : (j : ℕ) → rounded_of s (h.high * 2 ^ 64 + h.low) h.more (j + 4 * h.dropped) ≡ round binary64 s (n * 2 ^ j) (2 ^ 2340)
+  rounded_held : (j : ℕ) → rounded_of s h.digits h.more (j + 4 * h.dropped) ≡ round binary64 s (n * 2 ^ j) (2 ^ 2340)
   rounded_held j = go h.dropped H.full h.more H.kept
     where
-      go : (k : ℕ) → (0 < k → 2 ^ 60 ≤ h.high) → (m : Bool) → Kept n (h.high * 2 ^ 64 + h.low) (4 * k) m → rounded_of s (h.high * 2 ^ 64 + h.low) m (j + 4 * k) ≡ round binary64 s (n * 2 ^ j) (2 ^ 2340)
+      go : (k : ℕ) → (0 < k → 2 ^ 124 ≤ h.digits) → (m : Bool) → Kept n h.digits (4 * k) m → rounded_of s h.digits m (j + 4 * k) ≡ round binary64 s (n * 2 ^ j) (2 ^ 2340)
       go zero f m K =
-          let w = h.high * 2 ^ 64 + h.low in
+          let w = h.digits in
           let e = (all_held n w m K).1 in
           ap (λ (t : Bool). rounded_of s w t (j + 0)) e ∙ rounded_exact s (n * 2 ^ j) w (j + 0) (rw (← e) (kept_up n w 0 j m K))
-      go (suc k) f m K = rounded_kept s (n * 2 ^ j) (h.high * 2 ^ 64 + h.low) (j + 4 * suc k) m (kept_up n _ (4 * suc k) j m K) (many h.high h.low (f (omega arith)))
+      go (suc k) f m K = rounded_kept s (n * 2 ^ j) h.digits (j + 4 * suc k) m (kept_up n _ (4 * suc k) j m K) (many h.digits (f (omega arith)))
 
   far_down : 2340 + up < down → rounded_of s 0 false 0 ≡ round binary64 s (n * 2 ^ up) (2 ^ down)
   unfolding rounded_of
@@ -78,7 +78,7 @@ module _ (s : Bool) (n : ℕ) (h : Held) (H : Holds n h) (small : n < 2 ^ 160) (
       tiny s ((2 * 0 + cond false 1 0) * 2 ^ 0) (2 ^ 2341) (pow_pos 2341) (lit≤ tt)
       ∙ sym (tiny s (n * 2 ^ up) (2 ^ down) (pow_pos down) (le_trans (scaled_lt n up small) (pow_mono {i = 1236 + up} (let k : 1236 + up ≤ down = omega arith in k))))
 
-  in_reach : down ≤ 2340 + up → rounded_of s (h.high * 2 ^ 64 + h.low) h.more (2340 + up - down + 4 * h.dropped) ≡ round binary64 s (n * 2 ^ up) (2 ^ down)
+  in_reach : down ≤ 2340 + up → rounded_of s h.digits h.more (2340 + up - down + 4 * h.dropped) ≡ round binary64 s (n * 2 ^ up) (2 ^ down)
   in_reach l = rounded_held (2340 + up - down) ∙ round_same binary64 s (n * 2 ^ (2340 + up - down)) (2 ^ 2340) (n * 2 ^ up) (2 ^ down) (pow_pos 2340) (pow_pos down) (moved n (2340 + up - down) down up (omega arith))
 
   pub scaled_is : scaled_of s h up down ≡ round binary64 s (n * 2 ^ up) (2 ^ down)
@@ -86,6 +86,6 @@ module _ (s : Bool) (n : ℕ) (h : Held) (H : Holds n h) (small : n < 2 ^ 160) (
   scaled_is = go (ltb (2340 + up) down) refl
     where
       go : (t : Bool) → ltb (2340 + up) down ≡ t
-          → cond t (rounded_of s 0 false 0) (rounded_of s (h.high * 2 ^ 64 + h.low) h.more (2340 + up - down + 4 * h.dropped)) ≡ round binary64 s (n * 2 ^ up) (2 ^ down)
+          → cond t (rounded_of s 0 false 0) (rounded_of s h.digits h.more (2340 + up - down + 4 * h.dropped)) ≡ round binary64 s (n * 2 ^ up) (2 ^ down)
       go true e = far_down (ltb-true (2340 + up) down e)
       go false e = in_reach (ltb-false (2340 + up) down e)

@@ -2,20 +2,9 @@
 use Rattle.std.specs.Prelude.{◌≡◌, refl, ℕ, suc, ◌+◌, ◌*◌, ◌^◌, ◌≤◌, ◌<◌, Bool, true, false, cond, ◌||◌, Option, Some, None, List, [], ◌∷◌, ◌++◌, ltb, eqb, length, take, drop}
 use Rattle.std.proofs.Common.{sym, ap, ◌∙◌, mul_assoc, mul_comm, mul-le-mul_right, one-mul, pow-suc, le_trans, le_of_eq, lt_of_lt_of_le, arith, lit≤, ltb-true, ltb-false}
 use Rattle.std.proofs.Math.Nat.{pow-zero, pow-le-pow_right}
+use Rattle.std.proofs.lemmas.Option.{same_Some}
 use Rattle.line.specs.Line.{digit_of, spell_of}
 use Rattle.hexfloat.specs.Reading.{before, hex_digit_of, hex_of, power_of, mantissa_of}
-
-number_in : Option ℕ → ℕ
-number_in None = 0
-number_in (Some n) = suc n
-
-value_is : {m n : ℕ} → Some m ≡ Some n → m ≡ n
-unfolding number_in
-value_is {m} {n} e = let k : suc m ≡ suc n = ap number_in e in omega arith
-
-not-value : {A : Type 0} {n : ℕ} → None ≡ Some n → A
-unfolding number_in
-not-value {A} {n} e = let k : 0 ≡ suc n = ap number_in e in absurd (omega arith)
 
 -- ---- one to so many digits: what the test lets through
 pub at_most : (most k : ℕ) → (eqb k 0 || ltb most k) ≡ false → k ≤ most
@@ -30,7 +19,7 @@ let_through : (most k : ℕ) (n : Option ℕ) (m : ℕ) → cond (eqb k 0 || ltb
 let_through most k n m e = go (eqb k 0 || ltb most k) refl e
   where
     go : (t : Bool) → (eqb k 0 || ltb most k) ≡ t → cond t None n ≡ Some m → (k ≤ most) × (n ≡ Some m)
-    go true b e = not-value e
+    go true b e = cc
     go false b e = (at_most most k b, e)
 
 -- k digits of a base, whatever a digit is, after those that spelt n
@@ -43,13 +32,13 @@ module _ (base : ℕ) (digit : ℕ → ℕ) (spell : ℕ → List ℕ → Option
   grouped a k = mul_assoc a base (base ^ k) ∙ ap (λ (y : ℕ). a * y) (mul_comm base (base ^ k) ∙ sym (pow-suc base k))
 
   pub spelt_lt : (n : ℕ) (s : List ℕ) (m : ℕ) → spell n s ≡ Some m → m < (n + 1) * base ^ length s
-  spelt_lt n [] m e = rw (pow-zero base) (let k = value_is (sym (ends n) ∙ e) in omega arith)
+  spelt_lt n [] m e = rw (pow-zero base) (let k : n ≡ m = same_Some n m (sym (ends n) ∙ e) in omega arith)
   spelt_lt n (x ∷ xs) m e = go (ltb (digit x) base) refl (sym (goes n x xs) ∙ e) (spelt_lt (n * base + digit x) xs m)
     where
       go : (t : Bool) → ltb (digit x) base ≡ t → cond t (spell (n * base + digit x) xs) None ≡ Some m
           → (spell (n * base + digit x) xs ≡ Some m → m < (n * base + digit x + 1) * base ^ length xs) → m < (n + 1) * base ^ suc (length xs)
       go true b e next = lt_of_lt_of_le (next e) (le_trans (mul-le-mul_right (base ^ length xs) (widened n (digit x) (ltb-true (digit x) base b))) (le_of_eq (grouped (n + 1) (length xs))))
-      go false b e next = not-value e
+      go false b e next = cc
 
 -- 40 hex digits
 hex_goes : (n x : ℕ) (xs : List ℕ) → hex_of n (x ∷ xs) ≡ cond (ltb (hex_digit_of x) 16) (hex_of (n * 16 + hex_digit_of x) xs) None

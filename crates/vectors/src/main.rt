@@ -2,8 +2,6 @@
 // it works every line out again and writes how many lines there are and how many differ.
 #![tactic(auto)]
 
-ghost use Rattle.std.specs.Prelude.{◌≤◌};
-
 mod kinds;
 mod list;
 mod spelling;
@@ -31,19 +29,17 @@ fn tallied(rt: &HostRuntime, path: &[u8], kind: u8) -> Tally {
 }
 
 // How much of a word is taken: all of it, or none where it is longer than a path can be.
-fn kept(n: usize) -> usize
-    ensures { result ≤ n }
-{
-    if n > 4096 { 0 } else { n }
+fn kept(word: &[u8]) -> &[u8] {
+    if word.len() > 4096 { &[] } else { word }
 }
 
 fn replay(rt: &HostRuntime, i: usize) {
     let mut kind = [0u8; WORD];
-    let k = kept(files::word(rt, i, &mut kind));
+    let kind = kept(files::word(rt, i, &mut kind));
     let mut path = [0u8; WORD];
-    let n = kept(files::word(rt, std::num::wrapping_add_usize(i, 1), &mut path));
-    let tally = tallied(rt, &path[..n], kinds::kind_of(&kind[..k]));
-    rt.stdout().write_all(&path[..n]).is_ok();
+    let path = kept(files::word(rt, std::num::wrapping_add_usize(i, 1), &mut path));
+    let tally = tallied(rt, path, kinds::kind_of(kind));
+    rt.stdout().write_all(path).is_ok();
     list::print(rt, tally);
 }
 

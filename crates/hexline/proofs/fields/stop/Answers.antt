@@ -2,7 +2,7 @@
 use mathlib.Core.Path.{refl}
 use borrow.Author.Tests.{le-leb, lt-leb}
 use Rattle.laws.specs.Ladder.{held, passed}
-use Rattle.hexline.specs.Fields.{bad_from, stop_at, stop_of}
+use Rattle.hexline.specs.Fields.{stop_at, stop_of}
 use Rattle.hexline.proofs.fields.stop.Goals as goal
 
 pub returns-in-Some : goal.returns-in-Some

@@ -28,8 +28,8 @@ const FIRST: usize = 32;
 const SECOND: usize = 40;
 
 // What was entered, function, arguments and times, each with a comma after it.
-fn put_entered(out: &mut [u8], row: &[u8], times: u16) -> usize
-    requires { (268 ≤ length out.old) × (length row.now ≡ 48) }
+fn put_entered(out: &mut [u8], row: &[u8; ROW], times: u16) -> usize
+    requires { 268 ≤ length out.old }
     ensures { Placed out.old out.new 0 result 165 (entered_text (slice_index row.now 0) (pattern_at row.now 8) (pattern_at row.now 16) (pattern_at row.now 24) times) }
 {
     let at = put_decimal(out, 0, row[0] as u64, b',');
@@ -40,8 +40,8 @@ fn put_entered(out: &mut [u8], row: &[u8], times: u16) -> usize
 }
 
 // What it was worked out to, refusal and answers, and the line's end.
-fn put_worked(out: &mut [u8], at: usize, row: &[u8]) -> usize
-    requires { (at + 103 ≤ length out.old) × (length row.now ≡ 48) }
+fn put_worked(out: &mut [u8], at: usize, row: &[u8; ROW]) -> usize
+    requires { at + 103 ≤ length out.old }
     ensures { Placed out.old out.new at result 103 (worked_text (slice_index row.now 1) (pattern_at row.now 32) (pattern_at row.now 40)) }
 {
     let at = put_decimal(out, at, row[1] as u64, b',');
@@ -54,10 +54,9 @@ pub fn put_row(out: &mut [u8; LINE], sheet: &[u8], i: u32) -> usize
     ensures put { Put out.old out.new 0 result (row_line sheet.now i) }
     ensures upper_bound { result ≤ length out.new }
 {
-    let row = ledger::read_row(sheet, i);
-    if row.len() != ROW {
+    let Some(row) = ledger::read_row(sheet, i).as_array() else {
         return 0;
-    }
+    };
     let at = put_entered(out, row, ledger::row_times(sheet, i));
     put_worked(out, at, row)
 }

@@ -15,8 +15,8 @@ const FIRST: usize = 32;
 const SECOND: usize = 40;
 
 // The line of a row that was read: its number, function and refusal number, two answers, and the times.
-fn put_text(out: &mut [u8], at: usize, i: u32, row: &[u8], times: u16) -> usize
-    requires { (at + 68 ≤ length out.old) × (i < most_rows) × (length row.now ≡ 48) }
+fn put_text(out: &mut [u8], at: usize, i: u32, row: &[u8; ROW], times: u16) -> usize
+    requires { (at + 68 ≤ length out.old) × (i < most_rows) }
     ensures { Placed out.old out.new at result 54 (row_text i row.now times) }
 {
     let a = put_three(out, at, i as u64, row[0] as u64, row[1] as u64, b' ');
@@ -30,9 +30,8 @@ pub(crate) fn put_row(out: &mut [u8], at: usize, sheet: &[u8], i: u32) -> usize
     requires { (at + 68 ≤ length out.old) × (i < most_rows) }
     ensures { Placed out.old out.new at result 54 (row_line sheet.now i) }
 {
-    let row = ledger::read_row(sheet, i);
-    if row.len() != ROW {
+    let Some(row) = ledger::read_row(sheet, i).as_array() else {
         return at;
-    }
+    };
     put_text(out, at, i, row, ledger::row_times(sheet, i))
 }

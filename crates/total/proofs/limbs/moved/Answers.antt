@@ -18,6 +18,6 @@ returns c =
     let at = e / 64 in
     let split : 64 * at + e % 64 ≡ e = omega arith in
     let three_words : length w ≡ 3 = omega arith in
-    three c.args.away (val c.args.limbs.now) (W at * get_or w 0 0) (W (at + 1) * get_or w 1 0) (W (at + 2) * get_or w 2 0) (k * (d * 2 ^ e))
+    three c.args.negative (val c.args.limbs.now) (W at * get_or w 0 0) (W (at + 1) * get_or w 1 0) (W (at + 2) * get_or w 2 0) (k * (d * 2 ^ e))
     first.new.limbs second.new.limbs third.new.limbs (placed at (e % 64) e k d w three_words split c.spread.ensures) (small k d e c.ranges.times.fits p.digits_fit p.exponent_fits)
     first.ensures second.ensures third.ensures

@@ -27,9 +27,9 @@ returns-then-not-carried c =
     let z = c.step-sum.result.0 in
     let h : a.at ≤ length l = omega arith in
     let n : a.at + s.limb-index < length (joined a.at l s.limb-items) = omega (arith, part-length l a.at h) in
-    let b = carried l a.at h s.limb-items s.limb-index z a.away (val l) (W a.at * a.word) s.carry (from_bool c.step-sum.result.1) n c.step-sum.ensures s.invariant.balance in
+    let b = carried l a.at h s.limb-items s.limb-index z a.negative (val l) (W a.at * a.word) s.carry (from_bool c.step-sum.result.1) n c.step-sum.ensures s.invariant.balance in
     joined-end l a.at h (set s.limb-items s.limb-index z)
-    ∙ spent a.away (joined a.at l (set s.limb-items s.limb-index z)) (val l) (W a.at * a.word) (a.at + (s.limb-index + 1)) (from_bool c.step-sum.result.1)
+    ∙ spent a.negative (joined a.at l (set s.limb-items s.limb-index z)) (val l) (W a.at * a.word) (a.at + (s.limb-index + 1)) (from_bool c.step-sum.result.1)
     (same-length l a.at h s.limb-items s.limb-index z s.invariant.whole) (still_fit l a.at h s.limb-items s.limb-index z s.invariant.fit (omega arith))
     (reach a.at a.word c.requires.1 c.ranges.word.fits) (ap from_bool c.if-not-carried.true) b
 
@@ -41,7 +41,7 @@ loop-limb-preserved c =
     let z = c.step-sum.result.0 in
     let h : a.at ≤ length l = omega arith in
     let n : a.at + s.limb-index < length (joined a.at l s.limb-items) = omega (arith, part-length l a.at h) in
-    let b = carried l a.at h s.limb-items s.limb-index z a.away (val l) (W a.at * a.word) s.carry (from_bool c.step-sum.result.1) n c.step-sum.ensures s.invariant.balance in
+    let b = carried l a.at h s.limb-items s.limb-index z a.negative (val l) (W a.at * a.word) s.carry (from_bool c.step-sum.result.1) n c.step-sum.ensures s.invariant.balance in
     record {
       whole = same-length l a.at h s.limb-items s.limb-index z s.invariant.whole;
       fit = still_fit l a.at h s.limb-items s.limb-index z s.invariant.fit (omega arith);
@@ -55,5 +55,5 @@ returns c =
     let s = c.loop-limb in
     let h : a.at ≤ length l = omega arith in
     joined-end l a.at h s.limb-items
-    ∙ gone a.away (joined a.at l s.limb-items) (val l) (W a.at * a.word) (a.at + s.limb-index) s.carry s.invariant.whole s.invariant.fit
+    ∙ gone a.negative (joined a.at l s.limb-items) (val l) (W a.at * a.word) (a.at + s.limb-index) s.carry s.invariant.whole s.invariant.fit
     (reach a.at a.word c.requires.1 c.ranges.word.fits) (omega (arith, part-length l a.at h)) (omega (arith, part-length l a.at h)) s.invariant.balance

@@ -10,5 +10,5 @@ abbrev pub invariant-loop-limb : goal.invariant-loop-limb
 invariant-loop-limb l = record {
   whole : length (joined l.at l.fn.limbs l.limb-items) ≡ 34;
   fit : Fit (joined l.at l.fn.limbs l.limb-items);
-  balance : Balance l.away (val (joined l.at l.fn.limbs l.limb-items)) (val l.fn.limbs) (W l.at * l.word) (W (l.at + l.limb-index) * l.carry);
+  balance : Balance l.negative (val (joined l.at l.fn.limbs l.limb-items)) (val l.fn.limbs) (W l.at * l.word) (W (l.at + l.limb-index) * l.carry);
 }

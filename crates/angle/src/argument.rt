@@ -1,34 +1,17 @@
 // What sine and cosine see of their argument.
-ghost use Rattle.std.specs.Prelude.{◌≡◌, ◌*◌, ◌/◌, ◌^◌, ◌≤◌, ◌<◌, MatchResult};
+ghost use Rattle.std.specs.Prelude.{◌≡◌, ◌*◌, ◌^◌, ◌≤◌, MatchResult};
 ghost use Rattle.angle.specs.Alternating.{square_of, Refuses, Viewed};
 
 use super::series::scaled;
 use answer::Refusal;
-use bits::parts;
+use bits::{Parts, parts};
 
-// 2^-59 as a power of two times the smallest f64, 2^-1074.
-const UNIT: u64 = 1074 - 59;
-
-// digits * 2^exponent smallest f64 in units of 2^-59, cut. From 2^-7 on nothing of x is lost; 64
-// places or more below the unit nothing of it is left.
-fn fixed(digits: u64, exponent: u64) -> u64
-    requires { (digits < 2 ^ 53) × (exponent ≤ 1024) }
-    ensures { result ≡ digits * 2 ^ exponent * 2 ^ 59 / 2 ^ 1074 }
+// From 2^-7 on nothing of x is lost.
+fn square(p: Parts) -> u64
+    requires { (p.exponent ≤ 1024) × (p.digits * 2 ^ p.exponent ≤ 4 * 2 ^ 1074) }
+    ensures { result ≡ square_of (p.digits * 2 ^ p.exponent) (2 ^ 1074) }
 {
-    if exponent >= UNIT {
-        return digits << (exponent - UNIT);
-    }
-    if exponent > UNIT - 64 {
-        return digits >> (UNIT - exponent);
-    }
-    0
-}
-
-fn square(digits: u64, exponent: u64) -> u64
-    requires { (digits < 2 ^ 53) × (exponent ≤ 1024) × (digits * 2 ^ exponent ≤ 4 * 2 ^ 1074) }
-    ensures { result ≡ square_of (digits * 2 ^ exponent) (2 ^ 1074) }
-{
-    let x = fixed(digits, exponent);
+    let x = p.fixed(59);
     scaled(x, x)
 }
 
@@ -52,7 +35,7 @@ pub fn view(x: f64) -> Result<Angle, Refusal>
             negative: p.negative,
             digits: p.digits,
             exponent: p.exponent,
-            square: square(p.digits, p.exponent),
+            square: square(p),
         }),
         _ => Err(Refusal::OutOfRange),
     }

@@ -4,4 +4,3 @@ pub mod Sides
 pub mod Near
 pub mod Same
 pub mod Reaching
-pub mod Division

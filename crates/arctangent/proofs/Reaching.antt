@@ -27,14 +27,6 @@ use Rattle.arctangent.proofs.Sides.{sum_sizes, next_down, next_up, far_is}
 use Rattle.arctangent.proofs.Same.{next_same, sides-same, at_same}
 
 -- ---- `run`: with i terms left it is the sum of the others
-pub run_turn : (u n k i h p : ℕ) → 0 < i → i ≤ k → h ≡ run_of u (n + 4 * i) 4 (k - i) → p ≡ u * h / 2 ^ 64 → 2 ^ 63 / (n + 4 * (i - 1)) + p ≡ run_of u (n + 4 * (i - 1)) 4 (k - (i - 1))
-unfolding run_of
-run_turn u n k i h p l m eh ep =
-    let c : k - (i - 1) ≡ suc (k - i) = omega arith in
-    let s : n + 4 * (i - 1) + 4 ≡ n + 4 * i = omega arith in
-    ap (λ (z : ℕ). 2 ^ 63 / (n + 4 * (i - 1)) + z) (ep ∙ ap (λ (z : ℕ). u * z / 2 ^ 64) (eh ∙ ap (λ (z : ℕ). run_of u z 4 (k - i)) (sym s)))
-    ∙ ap (λ (z : ℕ). run_of u (n + 4 * (i - 1)) 4 z) (sym c)
-
 -- ---- tests
 holds_test : (x y : ℕ) → x < y → ltb x y ≡ true
 holds_test x y k = is_true (ltb x y) (lt→ltb x y k)

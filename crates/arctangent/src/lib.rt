@@ -19,7 +19,7 @@ mod quotient;
 mod sums;
 
 use answer::{Answer, Refusal};
-use argument::{RIGHT_ADDED, RIGHT_TAKEN, fixed, sides_of};
+use argument::{RIGHT_ADDED, RIGHT_TAKEN, sides_of};
 use bits::{Parts, parts, product, rounded};
 use sums::{Sides, factor};
 
@@ -40,9 +40,9 @@ fn of_parts(p: Parts) -> f64
     ensures { result ≡ arctangent_at p.negative (p.digits * 2 ^ p.exponent) (2 ^ 1074) }
 {
     if p.exponent >= 1020 {
-        return difference(p.negative, sides_of(p.digits, p.exponent));
+        return difference(p.negative, sides_of(p));
     }
-    let f = factor(fixed(p.digits, p.exponent));
+    let f = factor(p.fixed(64));
     let v = product(p.digits, f.added - f.taken);
     rounded(p.negative, v, false, p.exponent + PRODUCT_UNIT)
 }

@@ -1,30 +1,15 @@
 // A(t) = t - t^3/3 + t^5/5 - .. + t^41/41, which stands for arctan t, in units of 2^-63; t counts in 2^-64.
 ghost use Rattle.std.specs.Prelude.{◌≡◌, ◌-◌, ◌*◌, ◌/◌, ◌^◌, ◌≤◌, ◌<◌};
-ghost use Rattle.arctangent.specs.Sums.{run_of};
 ghost use Rattle.arctangent.specs.Arctangent.{sides, factor_of, next_to};
 
 use crate::quotient::quotient;
-use bits::upper;
+use bits::{run, upper};
 
 // What a sum adds and what it takes away.
 #[derive(Clone, Copy)]
 pub struct Sides {
     pub added: u64,
     pub taken: u64,
-}
-
-// 1/n + u/(n + 4) + u^2/(n + 8) + .., k terms, from the last to the first.
-fn run(u: u64, n: u64, k: u64) -> u64
-    requires { (u ≤ 2 ^ 60) × (0 < n) × (n ≤ 3) × (k ≤ 11) }
-    ensures { result ≡ run_of u n 4 k }
-{
-    let mut h: u64 = 0;
-    let mut i = k;
-    while i > 0 {
-        i -= 1;
-        h = 0x8000_0000_0000_0000 / (n + 4 * i) + upper(u, h);
-    }
-    h
 }
 
 // A(t) / t
@@ -35,8 +20,8 @@ pub(crate) fn factor(t: u64) -> Sides
     let w = upper(t, t);
     let u = upper(w, w);
     Sides {
-        added: run(u, 1, 11),
-        taken: upper(w, run(u, 3, 10)),
+        added: run(u, 1, 4, 11),
+        taken: upper(w, run(u, 3, 4, 10)),
     }
 }
 

@@ -1,17 +1,10 @@
 // Numbers of 128 digits: product, sum, difference and order, for every input.
-ghost use Rattle.std.specs.Prelude.{◌≡◌, ◌+◌, ◌-◌, ◌*◌, ◌/◌, ◌%◌, ◌^◌, nat_lt};
+ghost use Rattle.std.specs.Prelude.{◌≡◌, ◌+◌, ◌-◌, ◌*◌, ◌%◌, ◌^◌, nat_lt};
 
 pub fn product(a: u64, b: u64) -> u128
     ensures { result ≡ a * b }
 {
     a as u128 * b as u128
-}
-
-// Its upper half alone, in a function of its own: the compiler then makes it one multiplication.
-pub fn upper(a: u64, b: u64) -> u64
-    ensures { result ≡ a * b / 2 ^ 64 }
-{
-    (product(a, b) >> 64) as u64
 }
 
 pub fn plus(a: u128, b: u128) -> u128

@@ -16,7 +16,7 @@ full : (c : Then-p-ge1020) → 2 ^ 52 ≤ c.args.p.digits
 full c = c.args.p.leading (lt_of_lt_of_le (lit≤ tt) c.if-p-ge1020.true)
 
 pub sides_of-requires : goal.sides_of-requires
-sides_of-requires c = (full (goal.at.sides_of-requires c).Then-p-ge1020, c.args.p.digits_fit, c.if-p-ge1020.true)
+sides_of-requires c = c.if-p-ge1020.true
 
 large : (c : Then-p-ge1020) → 2 ^ 1074 ≤ 4 * (c.args.p.digits * 2 ^ c.args.p.exponent)
 large c = quarter-le c.args.p.digits c.args.p.exponent (full c) c.args.p.digits_fit c.if-p-ge1020.true

@@ -1,8 +1,9 @@
 -- A sum of Sums, cut, against the exact one: at most 9/8, and short by at most 4 units. Assumes nothing.
 use Rattle.std.specs.Prelude.{◌≡◌}
-use Rattle.std.proofs.Common.{sym, ap, ◌∙◌, mul-add, add-mul, mul_assoc, mul_comm, mul_left_comm, mul-pos, mul-le-mul, mul-le-mul_right, mul-le-mul_left, le_trans, le_of_lt, zero-lt-suc, div-mul-le_self, div-le_self, arith, lit≤, pow-add, pow_pos}
+use Rattle.std.proofs.Common.{sym, ap, ◌∙◌, mul-add, add-mul, mul_assoc, mul_comm, mul_left_comm, mul-pos, mul-le-mul, mul-le-mul_right, mul-le-mul_left, le_of_lt, zero-lt-suc, div-mul-le_self, arith, pow-add, pow_pos}
 use Prim.Native.Nat.{ℕ, zero, suc, ◌+◌, ◌*◌, ◌/◌, ◌^◌, ◌≤◌, ◌<◌, zero-le}
-use Rattle.std.proofs.Math.Nat.{le_of_mul-le-mul_left, lt-div-mul-add, div-le_of_le-mul}
+use Rattle.std.proofs.Math.Nat.{le_of_mul-le-mul_left, lt-div-mul-add}
+pub use Rattle.bits.specs.laws.Runs.{run-le}
 use Rattle.arctangent.specs.Sums.{powers, run_of}
 use Rattle.bounds.specs.laws.Held.{Is}
 
@@ -44,14 +45,6 @@ nested p q n d (suc k) =
     step (p ^ n) (q ^ n) n (p ^ d) (q ^ d) (top (p ^ d) (q ^ d) (n + d) d k) (bottom (q ^ d) (n + d) d k) r.num r.den (q ^ (n + d)) (p ^ (n + d)) (pow-add q n d) (pow-add p n d) (nested p q (n + d) d k)
 
 -- ---- the cut sum. Here 16 U is 1 in u.
-pub run-le : (u n d k : ℕ) → u ≤ 2 ^ 60 → run_of u n d k ≤ 9 * 2 ^ 60
-unfolding run_of
-run-le u n d zero h = zero-le
-run-le u n d (suc k) h =
-    let x : 2 ^ 63 / n ≤ 2 ^ 63 = div-le_self (2 ^ 63) n in
-    let y : u * run_of u (n + d) d k / 2 ^ 64 ≤ 9 * 2 ^ 56 = div-le_of_le-mul (2 ^ 64) (le_trans (mul-le-mul h (run-le u (n + d) d k h)) (lit≤ tt)) in
-    omega arith
-
 module _ (U P u a b n h v c N D : ℕ) (hU : 0 < U) where
   step-low : c * n ≤ P → u * b ≤ a * (16 * U) → v * (16 * U) ≤ u * h → h * D ≤ P * N → (c + v) * (n * b * D) ≤ P * (b * D + n * a * N)
   step-low hc hu hv ih =

@@ -10,7 +10,7 @@ use Rattle.angle.proofs.argument.square.Goals as goal
 
 pub scaled-requires : goal.scaled-requires
 scaled-requires c =
-    let l = subst (λ (x : ℕ). x ≤ 2 ^ 61) (sym c.fixed-x.ensures) (x_le (c.args.digits * 2 ^ c.args.exponent) (2 ^ 1074) (pow_pos 1074) c.requires.2) in
+    let l = subst (λ (x : ℕ). x ≤ 2 ^ 61) (sym c.fixed-x.ensures) (x_le (c.args.p.digits * 2 ^ c.args.p.exponent) (2 ^ 1074) (pow_pos 1074) c.requires.1) in
     lt_of_le_of_lt (mul-le-mul l l) (lit< tt)
 
 pub returns : goal.returns

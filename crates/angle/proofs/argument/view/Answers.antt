@@ -12,7 +12,8 @@ pub square-requires : goal.square-requires
 unfolding of_bits neg
 square-requires c =
     let p = c.in-Some.p in
-    bounds c.args.x true p.negative p.digits p.exponent c.if-x.false c.if-not-x.true c.in-Some.ensures
+    let b = bounds c.args.x true p.negative p.digits p.exponent c.if-x.false c.if-not-x.true c.in-Some.ensures in
+    (b.1, b.2)
 
 pub returns-in-Some : goal.returns-in-Some
 unfolding of_bits neg

@@ -2,17 +2,18 @@
 use mathlib.Core.Path.{◌∙◌}
 use Prim.Native.Nat.{ℕ, ◌+◌, ◌-◌, ◌*◌, ◌/◌, ◌%◌, ◌^◌, ◌≤◌, ◌<◌}
 use native.Mathlib.Omega.{arith}
-use lib.Dec.{lit<}
+use native.Mathlib.Nat.{lt_of_lt_of_le}
+use lib.Dec.{lit<, lit≤}
 use Rattle.arctangent.proofs.Reaching.{n_bounds, two_bounds, is_half, is_quarter, is_two}
 use Rattle.arctangent.proofs.argument.between.Goals as goal
 use Rattle.arctangent.proofs.argument.between.Goals.{Start}
 
 -- |x| in units of 2^-54
 abbrev n : Start → ℕ
-n s = s.args.digits * 2 ^ (s.args.exponent - 1020) % 2 ^ 64
+n s = s.args.p.digits * 2 ^ (s.args.p.exponent - 1020) % 2 ^ 64
 
 bounds : (s : Start) → (2 ^ 52 ≤ n s) × (n s < 2 ^ 56)
-bounds s = n_bounds s.args.digits s.args.exponent s.requires.0 s.requires.1 s.requires.2 s.requires.3
+bounds s = n_bounds s.args.p.digits s.args.p.exponent (s.args.p.leading (lt_of_lt_of_le (lit≤ tt) s.requires.0)) s.args.p.digits_fit s.requires.0 s.requires.1
 
 pub next_to-requires : goal.next_to-requires
 next_to-requires c = go (n (goal.at.next_to-requires c).Start) (bounds (goal.at.next_to-requires c).Start).0 c.if-n-lt-THREE_QUARTERS.true
@@ -22,15 +23,15 @@ next_to-requires c = go (n (goal.at.next_to-requires c).Start) (bounds (goal.at.
     go n h k = (omega arith, omega arith, omega arith, omega arith, lit< tt, lit< tt)
 
 pub returns-then-n-lt-THREE_QUARTERS : goal.returns-then-n-lt-THREE_QUARTERS
-returns-then-n-lt-THREE_QUARTERS c = c.next_to.ensures ∙ is_half c.args.digits c.args.exponent c.requires.0 c.requires.1 c.requires.2 c.requires.3 c.if-n-lt-THREE_QUARTERS.true
+returns-then-n-lt-THREE_QUARTERS c = c.next_to.ensures ∙ is_half c.args.p.digits c.args.p.exponent (c.args.p.leading (lt_of_lt_of_le (lit≤ tt) c.requires.0)) c.args.p.digits_fit c.requires.0 c.requires.1 c.if-n-lt-THREE_QUARTERS.true
 
 pub returns-then-n-lt-THREE_HALVES : goal.returns-then-n-lt-THREE_HALVES
 returns-then-n-lt-THREE_HALVES c =
-    c.next_to-then-n-lt-THREE_HALVES.ensures ∙ is_quarter c.args.digits c.args.exponent c.requires.0 c.requires.1 c.requires.2 c.requires.3 c.if-n-lt-THREE_QUARTERS.false c.if-n-lt-THREE_HALVES.true
+    c.next_to-then-n-lt-THREE_HALVES.ensures ∙ is_quarter c.args.p.digits c.args.p.exponent (c.args.p.leading (lt_of_lt_of_le (lit≤ tt) c.requires.0)) c.args.p.digits_fit c.requires.0 c.requires.1 c.if-n-lt-THREE_QUARTERS.false c.if-n-lt-THREE_HALVES.true
 
 pub next_to-requires-2 : goal.next_to-requires-2
 next_to-requires-2 c =
-    let b = two_bounds c.args.digits c.args.exponent c.requires.0 c.requires.1 c.requires.2 c.requires.3 c.if-n-lt-THREE_HALVES.false in
+    let b = two_bounds c.args.p.digits c.args.p.exponent (c.args.p.leading (lt_of_lt_of_le (lit≤ tt) c.requires.0)) c.args.p.digits_fit c.requires.0 c.requires.1 c.if-n-lt-THREE_HALVES.false in
     go (n (goal.at.next_to-requires-2 c).Start / 4) b.0 b.1
   where
     go : (m : ℕ) → 6 * 2 ^ 50 ≤ m → m < 2 ^ 54
@@ -39,4 +40,4 @@ next_to-requires-2 c =
 
 pub returns : goal.returns
 returns c =
-    c.next_to-2.ensures ∙ is_two c.args.digits c.args.exponent c.requires.0 c.requires.1 c.requires.2 c.requires.3 c.if-n-lt-THREE_HALVES.false
+    c.next_to-2.ensures ∙ is_two c.args.p.digits c.args.p.exponent (c.args.p.leading (lt_of_lt_of_le (lit≤ tt) c.requires.0)) c.args.p.digits_fit c.requires.0 c.requires.1 c.if-n-lt-THREE_HALVES.false

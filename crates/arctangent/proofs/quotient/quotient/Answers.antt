@@ -5,15 +5,14 @@ use Rattle.laws.specs.laws.Flags.{holds, both_true}
 use Rattle.arctangent.specs.Quotient.{quotient_of}
 use Rattle.arctangent.proofs.quotient.quotient.Goals as goal
 
-pub divided-requires : goal.divided-requires
-divided-requires c =
+pub quotient-requires : goal.quotient-requires
+quotient-requires c =
     let a = c.args in
-    let t = both_true (ltb a.a a.b) (ltb a.b (2 ^ 56)) c.if-a-b.true in
-    (ltb→lt a.a a.b (holds t.0), ltb→lt a.b (2 ^ 56) (holds t.1))
+    ltb→lt a.a a.b (holds (both_true (ltb a.a a.b) (ltb a.b (2 ^ 56)) c.if-a-b.true).0)
 
 pub returns-then-a-b : goal.returns-then-a-b
 unfolding quotient_of
-returns-then-a-b c = let a = c.args in held (a.a * 2 ^ 64 / a.b) 0 c.if-a-b.true c.divided.ensures
+returns-then-a-b c = let a = c.args in held (a.a * 2 ^ 64 / a.b) 0 c.if-a-b.true c.quotient.ensures
 
 pub returns : goal.returns
 unfolding quotient_of

@@ -1,3 +1,4 @@
 -- What more than one function's proof cites.
 mod Iteration
 mod Negative
+mod LastSums

@@ -2,11 +2,13 @@
 ghost use Rattle.std.specs.Prelude.{◌≡◌};
 ghost use Rattle.laws.specs.Arithmetic.{◌⊖◌, ◌⊘◌, 1·0};
 ghost use Rattle.root.specs.Root.{root_of};
-ghost use Rattle.legendre.specs.Ellipe.{start_of, next_of, last_sums_of, ln_of, near_one_of, e_from_of, e_mean_of, e_below_one_of, e_negative_of};
+ghost use Rattle.legendre.specs.Mean.{goes_on_of};
+ghost use Rattle.legendre.specs.Ellipe.{start_of, next_of, ln_of, near_one_of, e_from_of, e_mean_of, e_below_one_of, e_negative_of};
 
-use crate::k::{arithmetic, geometric, goes_on};
-use crate::{EPSILON, PI, ROOT_EPSILON};
-use pieces::{centre, e_piece, piece};
+use crate::ROOT_EPSILON;
+use crate::mean::{Rounds, arithmetic, below_one, geometric, goes_on};
+use pieces::e_piece;
+use std::f64::consts::PI;
 
 // The two means after some rounds, the sum e so far with what its rounding lost, and the next term's power of two.
 #[derive(Clone, Copy)]
@@ -19,7 +21,7 @@ pub(crate) struct Sums {
 }
 
 impl Sums {
-    fn start(y0: f64) -> Sums
+    pub(crate) fn start(y0: f64) -> Sums
         ensures { result ≡ start_of y0 }
     {
         let mean = arithmetic(1.0, y0);
@@ -27,42 +29,36 @@ impl Sums {
         Sums {
             x: 1.0,
             y: y0,
-            e: e,
+            e,
             compensation: fused::fused(mean, mean, -e),
             power: 0.25,
         }
     }
+}
 
-    fn next(self) -> Sums
-        ensures { result ≡ next_of self }
-    {
+impl Rounds for Sums {
+    ghost goes = { λ tolerance s. goes_on_of tolerance s.x s.y };
+
+    ghost next = { next_of };
+
+    fn goes_on(self, tolerance: f64) -> bool {
+        goes_on(tolerance, self.x, self.y)
+    }
+
+    fn next(self) -> Sums {
         let x = arithmetic(self.x, self.y);
         let y = geometric(self.x, self.y);
         let power = self.power * 2.0;
         let correction = power * (x - y) * (x - y) - self.compensation;
         let e = self.e - correction;
         Sums {
-            x: x,
-            y: y,
-            e: e,
+            x,
+            y,
+            e,
             compensation: (self.e - e) - correction,
-            power: power,
+            power,
         }
     }
-}
-
-// The file's `while` has no bound; from 8 rounds on none shows (identities, `ellipe_ends`).
-pub(crate) fn last_sums(tolerance: f64, y0: f64) -> Sums
-    ensures { result ≡ last_sums_of 32 tolerance y0 }
-{
-    let mut s = Sums::start(y0);
-    for k in 0..32usize {
-        if !goes_on(tolerance, s.x, s.y) {
-            return s;
-        }
-        s = s.next();
-    }
-    s
 }
 
 fn ln(x: f64) -> f64
@@ -89,16 +85,13 @@ fn e_mean(y0: f64) -> f64
     if y0 <= ROOT_EPSILON {
         return near_one(y0);
     }
-    e_from(last_sums(2.7 * EPSILON, y0))
+    e_from(Sums::start(y0).last(2.7 * f64::EPSILON))
 }
 
 pub(crate) fn e_below_one(m: f64) -> f64
     ensures { result ≡ e_below_one_of 32 m }
 {
-    match piece(m) {
-        Some(i) => e_piece(i, m - centre(i)),
-        None => e_mean(root::root(1.0 - m)),
-    }
+    below_one(m, |i, delta| e_piece(i, delta), e_mean)
 }
 
 pub(crate) fn e_negative(m: f64) -> f64

@@ -2,13 +2,14 @@
 ghost use Rattle.std.specs.Prelude.{◌≡◌};
 ghost use Rattle.laws.specs.Arithmetic.{◌⊖◌, ◌⊘◌, 1·0};
 ghost use Rattle.root.specs.Root.{root_of};
-ghost use Rattle.legendre.specs.Ellipke.{both_mean_of, both_below_one_of, scaled_of, both_negative_of, pair_of};
+ghost use Rattle.legendre.specs.Ellipke.{both_mean_of, both_piece_of, both_below_one_of, scaled_of, both_negative_of, pair_of};
 
 use crate::ROOT_EPSILON;
-use crate::e::{e_from, last_sums, near_one};
+use crate::e::{Sums, e_from, near_one};
 use crate::k::k_from;
+use crate::mean::{Rounds, below_one};
 use answer::{Answer, Refusal};
-use pieces::{centre, e_piece, k_piece, piece};
+use pieces::{e_piece, k_piece};
 
 #[derive(Clone, Copy)]
 pub(crate) struct Both {
@@ -19,30 +20,27 @@ pub(crate) struct Both {
 fn both_mean(y0: f64) -> Both
     ensures { result ≡ both_mean_of y0 }
 {
-    let s = last_sums(ROOT_EPSILON, y0);
+    let s = Sums::start(y0).last(ROOT_EPSILON);
     let k = k_from(s.x, s.y);
     if y0 <= ROOT_EPSILON {
-        return Both {
-            k: k,
-            e: near_one(y0),
-        };
+        return Both { k, e: near_one(y0) };
     }
-    Both { k: k, e: e_from(s) }
+    Both { k, e: e_from(s) }
+}
+
+fn both_piece(i: usize, delta: f64) -> Both
+    ensures { result ≡ both_piece_of i delta }
+{
+    Both {
+        k: k_piece(i, delta),
+        e: e_piece(i, delta),
+    }
 }
 
 pub(crate) fn both_below_one(m: f64) -> Both
     ensures { result ≡ both_below_one_of m }
 {
-    match piece(m) {
-        Some(i) => {
-            let delta = m - centre(i);
-            Both {
-                k: k_piece(i, delta),
-                e: e_piece(i, delta),
-            }
-        }
-        None => both_mean(root::root(1.0 - m)),
-    }
+    below_one(m, both_piece, both_mean)
 }
 
 fn scaled(c: f64, b: Both) -> Both

@@ -8,21 +8,19 @@ ghost use Rattle.legendre.specs.Ellipk.{k_unchecked_of, ellipk_of};
 ghost use Rattle.legendre.specs.Ellipe.{ellipe_of};
 ghost use Rattle.legendre.specs.Ellipke.{ellipke_of};
 
+use crate::domain::Domain;
 use crate::e::{e_below_one, e_negative};
 use crate::k::{k_below_one, k_mean};
 use crate::ke::{both_below_one, both_negative, pair};
 use answer::{Answer, Parameter, Refusal};
 
+mod domain;
 mod e;
 mod k;
 mod ke;
+mod mean;
 
-// std's own digits
-const PI: f64 = 3.14159265358979323846264338327950288;
-
-const EPSILON: f64 = 2.2204460492503131e-16;
-
-// 2^-26, the root of EPSILON, exactly
+// 2^-26, the root of the distance from 1 to the next f64, exactly
 const ROOT_EPSILON: f64 = 1.490116119384765625e-8;
 
 // K(m), DLMF 19.2.8: K(1) = ∞, K(-∞) = 0.
@@ -30,22 +28,13 @@ pub fn ellipk(m: Parameter) -> Result<Answer, Refusal>
     ensures { result ≡ ellipk_of m.0 }
 {
     let m = m.0;
-    if m != m {
-        return Err(Refusal::NotANumber);
+    let place = Domain::of(m)?;
+    match place {
+        Domain::One => Ok(Answer::Infinite(false)),
+        Domain::Bottom => Ok(Answer::One(0.0)),
+        Domain::Negative => Ok(Answer::One(k_mean(root::root(1.0 - m)))),
+        Domain::Unit => Ok(Answer::One(k_below_one(m))),
     }
-    if m > 1.0 {
-        return Err(Refusal::AboveOne);
-    }
-    if m == 1.0 {
-        return Ok(Answer::Infinite(false));
-    }
-    if m == f64::NEG_INFINITY {
-        return Ok(Answer::One(0.0));
-    }
-    if m < 0.0 {
-        return Ok(Answer::One(k_mean(root::root(1.0 - m))));
-    }
-    Ok(Answer::One(k_below_one(m)))
 }
 
 // `ellipk_precise_unchecked` of ellipk.rs, as ellipf.rs calls it: the mean for any m, and no test. NaN for m > 1 and at -∞.
@@ -60,22 +49,13 @@ pub fn ellipe(m: Parameter) -> Result<Answer, Refusal>
     ensures { result ≡ ellipe_of m.0 }
 {
     let m = m.0;
-    if m != m {
-        return Err(Refusal::NotANumber);
+    let place = Domain::of(m)?;
+    match place {
+        Domain::One => Ok(Answer::One(1.0)),
+        Domain::Bottom => Ok(Answer::Infinite(false)),
+        Domain::Negative => Ok(Answer::One(e_negative(m))),
+        Domain::Unit => Ok(Answer::One(e_below_one(m))),
     }
-    if m > 1.0 {
-        return Err(Refusal::AboveOne);
-    }
-    if m == 1.0 {
-        return Ok(Answer::One(1.0));
-    }
-    if m == f64::NEG_INFINITY {
-        return Ok(Answer::Infinite(false));
-    }
-    if m < 0.0 {
-        return Ok(Answer::One(e_negative(m)));
-    }
-    Ok(Answer::One(e_below_one(m)))
 }
 
 // K(m) and E(m) together, a Pair always: (∞, 1) at 1, (0, ∞) at -∞. Its bits are not those of the two functions alone.
@@ -83,22 +63,13 @@ pub fn ellipke(m: Parameter) -> Result<Answer, Refusal>
     ensures { result ≡ ellipke_of m.0 }
 {
     let m = m.0;
-    if m != m {
-        return Err(Refusal::NotANumber);
+    let place = Domain::of(m)?;
+    match place {
+        Domain::One => Ok(Answer::Pair(f64::INFINITY, 1.0)),
+        Domain::Bottom => Ok(Answer::Pair(0.0, f64::INFINITY)),
+        Domain::Negative => pair(both_negative(m)),
+        Domain::Unit => pair(both_below_one(m)),
     }
-    if m > 1.0 {
-        return Err(Refusal::AboveOne);
-    }
-    if m == 1.0 {
-        return Ok(Answer::Pair(f64::INFINITY, 1.0));
-    }
-    if m == f64::NEG_INFINITY {
-        return Ok(Answer::Pair(0.0, f64::INFINITY));
-    }
-    if m < 0.0 {
-        return pair(both_negative(m));
-    }
-    pair(both_below_one(m))
 }
 
 // K(m) and E(m) as a formula goes on with them: NaN for a refusal, the file's `unwrap_or(nan!())`.

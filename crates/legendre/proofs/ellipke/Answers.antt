@@ -1,28 +1,29 @@
--- Down the tests of `by_domain` (Decided.antt), one for each return.
-use Rattle.legendre.specs.laws.Decided.{at-nan, over, at_one, at_minus_infinity, where_negative, below_one}
+-- Where m lies decides (`Domain::of`).
+use Rattle.std.proofs.Common.{Err, refl, ap, ◌∙◌}
+use Rattle.std.proofs.lemmas.Result.{err_from_is_err_and}
+use Rattle.legendre.specs.Domain.{chosen_of}
+use Rattle.legendre.specs.laws.Decided.{chosen}
 use Rattle.legendre.specs.Ellipke.{ellipke_of}
 use Rattle.legendre.proofs.ellipke.Goals as goal
 
-pub returns-then-m : goal.returns-then-m
+pub returns-in_err-place : goal.returns-in_err-place
 unfolding ellipke_of
-returns-then-m c = at-nan _ _ _ _ _ c.if-m.true
+returns-in_err-place c =
+    let p = err_from_is_err_and c.from_residual.result c.from_residual.ensures.1 in
+    p.1 ∙ ap Err p.2 ∙ c.in_err-place.ensures _ _ _ _
 
-pub returns-then-m-2 : goal.returns-then-m-2
-unfolding ellipke_of
-returns-then-m-2 c = over _ _ _ _ _ c.if-m.false c.if-m-2.true
+pub returns-in-One : goal.returns-in-One
+unfolding ellipke_of chosen_of
+returns-in-One c = chosen _ _ _ _ _ c.in_ok-place.ensures c.in-One.is refl
 
-pub returns-then-m-3 : goal.returns-then-m-3
-unfolding ellipke_of
-returns-then-m-3 c = at_one _ _ _ _ _ c.if-m.false c.if-m-2.false c.if-m-3.true
+pub returns-in-Bottom : goal.returns-in-Bottom
+unfolding ellipke_of chosen_of
+returns-in-Bottom c = chosen _ _ _ _ _ c.in_ok-place.ensures c.in-Bottom.is refl
 
-pub returns-then-m-4 : goal.returns-then-m-4
-unfolding ellipke_of
-returns-then-m-4 c = at_minus_infinity _ _ _ _ _ c.if-m.false c.if-m-2.false c.if-m-3.false c.if-m-4.true
+pub returns-in-Negative : goal.returns-in-Negative
+unfolding ellipke_of chosen_of
+returns-in-Negative c = chosen _ _ _ _ _ c.in_ok-place.ensures c.in-Negative.is (rw (c.pair.ensures, c.both_negative.ensures))
 
-pub returns-then-m-5 : goal.returns-then-m-5
-unfolding ellipke_of
-returns-then-m-5 c = where_negative _ _ _ _ _ _ c.if-m.false c.if-m-2.false c.if-m-3.false c.if-m-4.false c.if-m-5.true (rw (c.pair.ensures, c.both_negative.ensures))
-
-pub returns : goal.returns
-unfolding ellipke_of
-returns c = below_one _ _ _ _ _ _ c.if-m.false c.if-m-2.false c.if-m-3.false c.if-m-4.false c.if-m-5.false (rw (c.pair-2.ensures, c.both_below_one.ensures))
+pub returns-in-Unit : goal.returns-in-Unit
+unfolding ellipke_of chosen_of
+returns-in-Unit c = chosen _ _ _ _ _ c.in_ok-place.ensures c.in-Unit.is (rw (c.pair-in-Unit.ensures, c.both_below_one.ensures))

@@ -1,6 +1,6 @@
 -- The two means by what they ensure; the rest is computed.
 use Rattle.legendre.specs.Ellipe.{next_of}
-use Rattle.legendre.proofs.e.Sums.next.Goals as goal
+use Rattle.legendre.proofs.e.SumsRounds.next.Goals as goal
 
 pub returns : goal.returns
 unfolding next_of

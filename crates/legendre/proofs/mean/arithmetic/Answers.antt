@@ -1,7 +1,7 @@
 -- The definition, computed.
 use mathlib.Core.Path.{refl}
 use Rattle.legendre.specs.Mean.{arithmetic_of}
-use Rattle.legendre.proofs.k.arithmetic.Goals as goal
+use Rattle.legendre.proofs.mean.arithmetic.Goals as goal
 
 pub returns : goal.returns
 unfolding arithmetic_of

@@ -1,6 +1,6 @@
 -- The two means, by what their functions ensure.
 use Rattle.legendre.specs.Ellipk.{next_of}
-use Rattle.legendre.proofs.k.Means.next.Goals as goal
+use Rattle.legendre.proofs.k.MeansRounds.next.Goals as goal
 
 pub returns : goal.returns
 unfolding next_of

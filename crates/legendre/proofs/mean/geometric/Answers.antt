@@ -1,6 +1,6 @@
 -- What root ensures of the product.
 use Rattle.legendre.specs.Mean.{geometric_of}
-use Rattle.legendre.proofs.k.geometric.Goals as goal
+use Rattle.legendre.proofs.mean.geometric.Goals as goal
 
 pub returns : goal.returns
 unfolding geometric_of

@@ -7,7 +7,7 @@ mod timing;
 use patterns::Random;
 use timing::Contest;
 
-fn value(answer: twin::answer::Answer) -> f64 {
+fn value(answer: Result<twin::answer::Answer, twin::answer::Refusal>) -> f64 {
     twin::answer::value(answer)
 }
 

@@ -133,12 +133,6 @@ pub tried_last : (i : ℕ) → i ≤ 52 → 52 ≤ i → (n rest next : ℕ) →
 tried_last i a b n rest next = subst (λ (s : ℕ). Tried n s rest next) (last-place i a b)
 
 -- the count of the digits
-pub count_fits : (i : ℕ) → i < 52 → i + 1 < 2 ^ 64
-count_fits i h = omega arith
-
-pub count_goes : (i : ℕ) → i < 52 → (i + 1 ≤ 52) × (52 - (i + 1) < 52 - i)
-count_goes i h = (omega arith, omega arith)
-
 -- down to 1 it is the whole root
 found : (m q rest : ℕ) → 8 * (q * q) + rest * 1 ≡ m * 2 ^ 54 → rest < 16 * q + 8 * 1 → q ≡ whole_root (m * 2 ^ 51)
 found m q rest a b = only_root (m * 2 ^ 51) q (let z : q * q ≤ m * 2 ^ 51 = omega arith in z, let z : m * 2 ^ 51 < (q + 1) * (q + 1) = omega arith in z)

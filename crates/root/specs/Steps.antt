@@ -1,5 +1,5 @@
 -- What the steps of the root promise each other. Definitions only.
-use Rattle.std.specs.Prelude.{◌≡◌, ℕ, ◌+◌, ◌*◌, ◌^◌, ◌<◌, ◌≤◌, Bool, true, false, Float}
+use Rattle.std.specs.Prelude.{◌≡◌, ℕ, ◌+◌, ◌*◌, ◌^◌, ◌<◌, ◌≤◌, Option, Some, None, Float}
 use Rattle.root.specs.Root.{round_root, root_of}
 
 -- The root of n / 8 is found down to the place s: between root and root + s. rest counts what is left of n in s, and next what the next digit, at s/2, would take from it. The root stays below 2 ^ 54, so that one word holds each of these.
@@ -26,8 +26,8 @@ pub record Aligned (sig exp radicand half : ℕ) : Type 0 where
   pub same : radicand * 2 ^ 51 * 4 ^ half ≡ sig * 2 ^ exp * 2 ^ 1074
   pub sized : Sized radicand half
 
--- The root of x is that of radicand * 2 ^ 51 * 4 ^ half such squares where it is plain, and else value.
-pub record Readied (x : Float) (plain : Bool) (value : Float) (radicand half : ℕ) : Type 0 where
+-- The root of x is what is settled, and where nothing is, that of radicand * 2 ^ 51 * 4 ^ half such squares.
+pub record Readied (x : Float) (settled : Option Float) (radicand half : ℕ) : Type 0 where
   pub sized : Sized radicand half
-  pub worked : plain ≡ true → round_root (radicand * 2 ^ 51 * 4 ^ half) ≡ root_of x
-  pub known : plain ≡ false → value ≡ root_of x
+  pub worked : settled ≡ None → round_root (radicand * 2 ^ 51 * 4 ^ half) ≡ root_of x
+  pub known : (value : Float) → settled ≡ Some value → value ≡ root_of x

@@ -9,7 +9,20 @@
 
 ghost use Rattle.std.specs.Prelude.{◌≡◌, ℕ, ◌+◌, ◌*◌, ◌^◌, ◌<◌, ◌≤◌, Float};
 ghost use Rattle.root.specs.Root.{root_of, whole_root};
-ghost use Rattle.root.specs.Steps.{Tried, Moving, Sized, Aligned, Readied};
+ghost use Rattle.root.specs.Steps.{Tried, Moving, Aligned, Readied};
+
+use bits::Parts;
+
+// A float's digits moved up to 56 or 57 places, so that the rest of its exponent is even. The root of digits * 2^51 then has
+// 54 places; times 2^half it is no larger than an f64.
+#[derive(Clone, Copy)]
+struct Radicand {
+    digits: u64,
+    half: u64,
+    ghost least: { 2 ^ 55 ≤ digits },
+    ghost most: { digits < 2 ^ 57 },
+    ghost scale: { half ≤ 1600 },
+}
 
 // The rest, and the trial for the next digit.
 #[derive(Clone, Copy)]
@@ -59,12 +72,11 @@ fn step(p: Trial, m: Moves) -> Trial
 }
 
 // Of the 54 digits the first is 1: s is 2^53, and so is q.
-fn first_trial(radicand: u64) -> Trial
-    requires { (2 ^ 55 ≤ radicand) × (radicand < 2 ^ 57) }
-    ensures { Tried (radicand * 2 ^ 54) (2 ^ 53) result.rest result.next }
+fn first_trial(r: Radicand) -> Trial
+    ensures { Tried (r.digits * 2 ^ 54) (2 ^ 53) result.rest result.next }
 {
     Trial {
-        rest: (radicand - 0x80_0000_0000_0000) << 1,
+        rest: (r.digits - 0x80_0000_0000_0000) << 1,
         next: 0x140_0000_0000_0000,
     }
 }
@@ -89,12 +101,11 @@ fn last_digit(p: Trial) -> u64
 // The digits between the first and the last.
 const TRIED: u64 = 52;
 
-// The root of radicand * 2^51.
-fn digits(radicand: u64) -> u64
-    requires { (2 ^ 55 ≤ radicand) × (radicand < 2 ^ 57) }
-    ensures { result ≡ whole_root (radicand * 2 ^ 51) }
+// The root of its digits * 2^51.
+fn digits(r: Radicand) -> u64
+    ensures { result ≡ whole_root (r.digits * 2 ^ 51) }
 {
-    let mut p = first_trial(radicand);
+    let mut p = first_trial(r);
     let mut m = first_moves();
     for _ in 0..TRIED {
         p = step(p, m);
@@ -111,9 +122,8 @@ struct ThreeDigits {
 }
 
 // Those of three numbers. A digit waits for the one before it in the same number, and not for the others': so the processor works on all three at once.
-fn digits_of_three(x: u64, y: u64, z: u64) -> ThreeDigits
-    requires { (2 ^ 55 ≤ x) × (x < 2 ^ 57) × (2 ^ 55 ≤ y) × (y < 2 ^ 57) × (2 ^ 55 ≤ z) × (z < 2 ^ 57) }
-    ensures { (result.x ≡ whole_root (x * 2 ^ 51)) × (result.y ≡ whole_root (y * 2 ^ 51)) × (result.z ≡ whole_root (z * 2 ^ 51)) }
+fn digits_of_three(x: Radicand, y: Radicand, z: Radicand) -> ThreeDigits
+    ensures { (result.x ≡ whole_root (x.digits * 2 ^ 51)) × (result.y ≡ whole_root (y.digits * 2 ^ 51)) × (result.z ≡ whole_root (z.digits * 2 ^ 51)) }
 {
     let mut a = first_trial(x);
     let mut b = first_trial(y);
@@ -135,68 +145,56 @@ fn digits_of_three(x: u64, y: u64, z: u64) -> ThreeDigits
 // x counts in 2^-1074, and 51 zeros follow its digits.
 const SPARE: u64 = 1074 - 51;
 
-// A float's digits moved up to 56 or 57 places, so that the rest of its exponent is even.
-#[derive(Clone, Copy)]
-struct Radicand {
-    digits: u64,
-    half: u64,
-}
-
-fn aligned(sig: u64, exp: u64) -> Radicand
-    requires { (0 < sig) × (sig < 2 ^ 53) × (exp ≤ 2045) }
-    ensures { Aligned sig exp result.digits result.half }
+fn aligned(p: Parts) -> Radicand
+    requires { 0 < p.digits }
+    ensures { Aligned p.digits p.exponent result.digits result.half }
 {
     // all but subnormals have 53 digits
-    if sig >= 0x10_0000_0000_0000 {
+    if p.digits >= 0x10_0000_0000_0000 {
         return Radicand {
-            digits: sig << (3 + (exp & 1)),
-            half: (exp + SPARE - 3) >> 1,
+            digits: p.digits << (3 + (p.exponent & 1)),
+            half: (p.exponent + SPARE - 3) >> 1,
         };
     }
-    let zeros = u64::leading_zeros(sig) as u64;
-    let shift = zeros - 7 - ((exp + zeros) & 1);
+    let zeros = u64::leading_zeros(p.digits) as u64;
+    let shift = zeros - 7 - ((p.exponent + zeros) & 1);
     Radicand {
-        digits: sig << shift,
-        half: (exp + SPARE - shift) >> 1,
+        digits: p.digits << shift,
+        half: (p.exponent + SPARE - shift) >> 1,
     }
 }
 
-// What the digits are worked out of, and what becomes of them. Where x has no digits of a root (it is not plain) the root is
-// `value`, and any radicand may stand for its own.
+// What the digits are worked out of. Where x has no digits of a root the root is `settled`, and any radicand may stand for its own.
 #[derive(Clone, Copy)]
 struct Ready {
-    plain: bool,
-    value: f64,
-    radicand: u64,
-    half: u64,
+    settled: Option<f64>,
+    radicand: Radicand,
 }
 
 fn settled(value: f64) -> Ready
-    ensures { (x : Float) → value ≡ root_of x → Readied x result.plain result.value result.radicand result.half }
+    ensures { (x : Float) → value ≡ root_of x → Readied x result.settled result.radicand.digits result.radicand.half }
 {
     Ready {
-        plain: false,
-        value: value,
-        radicand: 0x80_0000_0000_0000,
-        half: 0,
+        settled: Some(value),
+        radicand: Radicand {
+            digits: 0x80_0000_0000_0000,
+            half: 0,
+        },
     }
 }
 
 const NAN: u64 = 0x7ff8_0000_0000_0000;
 
 fn made_ready(x: f64) -> Ready
-    ensures { Readied x result.plain result.value result.radicand result.half }
+    ensures { Readied x result.settled result.radicand.digits result.radicand.half }
 {
     if x > 0.0 {
         let Some(p) = bits::parts(x) else {
             return settled(x);
         };
-        let a = aligned(p.digits, p.exponent);
         return Ready {
-            plain: true,
-            value: x,
-            radicand: a.digits,
-            half: a.half,
+            settled: None,
+            radicand: aligned(p),
         };
     }
     if x < 0.0 {
@@ -207,23 +205,23 @@ fn made_ready(x: f64) -> Ready
 
 // The root is neither subnormal nor too large, so its pattern is one sum: the leading one of its 53 digits adds 1 to the exponent's field, and a carry to 2^53 adds 2.
 fn finished(r: Ready, digits: u64) -> f64
-    requires { Sized r.radicand r.half × (digits ≡ whole_root (r.radicand * 2 ^ 51)) }
-    ensures { (x : Float) → Readied x r.plain r.value r.radicand r.half → result ≡ root_of x }
+    requires { digits ≡ whole_root (r.radicand.digits * 2 ^ 51) }
+    ensures { (x : Float) → Readied x r.settled r.radicand.digits r.radicand.half → result ≡ root_of x }
 {
-    if r.plain {
-        return f64::from_bits(((r.half + 1) << 52) + ((digits + 1) >> 1));
+    match r.settled {
+        Some(value) => value,
+        None => f64::from_bits(((r.radicand.half + 1) << 52) + ((digits + 1) >> 1)),
     }
-    r.value
 }
 
 pub fn root(x: f64) -> f64
     ensures { result ≡ root_of x }
 {
     let r = made_ready(x);
-    if r.plain {
-        return finished(r, digits(r.radicand));
+    match r.settled {
+        Some(value) => value,
+        None => finished(r, digits(r.radicand)),
     }
-    r.value
 }
 
 #[derive(Clone, Copy)]

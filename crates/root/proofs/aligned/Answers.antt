@@ -7,16 +7,16 @@ use Rattle.root.proofs.aligned.Goals as goal
 use Rattle.root.proofs.aligned.Goals.{Start}
 
 pub overflow_add-result : goal.overflow_add-result
-overflow_add-result c = omega (arith, mask_lt c.args.exp 1)
+overflow_add-result c = omega (arith, mask_lt c.args.p.exponent 1)
 
 pub overflow_shl-result : goal.overflow_shl-result
-overflow_shl-result c = omega (arith, mask_lt c.args.exp 1)
+overflow_shl-result c = omega (arith, mask_lt c.args.p.exponent 1)
 
-pub returns-then-sig-ge4503599627370496 : goal.returns-then-sig-ge4503599627370496
-returns-then-sig-ge4503599627370496 c = full_aligned c.args.sig c.args.exp c.if-sig-ge4503599627370496.true c.requires.1 c.requires.2
+pub returns-then-p-ge4503599627370496 : goal.returns-then-p-ge4503599627370496
+returns-then-p-ge4503599627370496 c = full_aligned c.args.p.digits c.args.p.exponent c.if-p-ge4503599627370496.true c.args.p.digits_fit c.args.p.exponent_fits
 
-zeros : (c : Start) → (11 ≤ count_leading_zeros 64 c.args.sig) × (count_leading_zeros 64 c.args.sig ≤ 63) × (bit_and (c.args.exp + count_leading_zeros 64 c.args.sig) 1 < 2)
-zeros c = let z = zeros_bound c.args.sig c.requires.0 c.requires.1 in (z.0, z.1, mask_lt (c.args.exp + count_leading_zeros 64 c.args.sig) 1)
+zeros : (c : Start) → (11 ≤ count_leading_zeros 64 c.args.p.digits) × (count_leading_zeros 64 c.args.p.digits ≤ 63) × (bit_and (c.args.p.exponent + count_leading_zeros 64 c.args.p.digits) 1 < 2)
+zeros c = let z = zeros_bound c.args.p.digits c.requires c.args.p.digits_fit in (z.0, z.1, mask_lt (c.args.p.exponent + count_leading_zeros 64 c.args.p.digits) 1)
 
 pub overflow_cast-zeros : goal.overflow_cast-zeros
 overflow_cast-zeros c = omega (arith, zeros (goal.at.overflow_cast-zeros c).Start)
@@ -37,4 +37,10 @@ pub overflow_sub-result-2 : goal.overflow_sub-result-2
 overflow_sub-result-2 c = omega (arith, zeros (goal.at.overflow_sub-result-2 c).Start)
 
 pub returns : goal.returns
-returns c = is_aligned c.args.sig c.args.exp c.requires.0 c.requires.1 c.requires.2 (count_leading_zeros 64 c.args.sig) _ refl refl
+returns c = is_aligned c.args.p.digits c.args.p.exponent c.requires c.args.p.digits_fit c.args.p.exponent_fits (count_leading_zeros 64 c.args.p.digits) _ refl refl
+
+pub invariant_of-result-2 : goal.invariant_of-result-2
+invariant_of-result-2 c =
+    let p = c.args.p in
+    let z = (is_aligned p.digits p.exponent c.requires p.digits_fit p.exponent_fits (count_leading_zeros 64 p.digits) _ refl refl).sized in
+    record { least = z.least; most = z.most; scale = z.scale }

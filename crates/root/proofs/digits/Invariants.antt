@@ -5,4 +5,4 @@ use Rattle.root.proofs.Trials.{place}
 use Rattle.root.proofs.digits.Given as goal
 
 abbrev pub invariant-loop : goal.invariant-loop
-invariant-loop l = Tried (l.radicand * 2 ^ 54) (place l.counter) l.p.rest l.p.next × Moving (place l.counter) l.m.up l.m.down
+invariant-loop l = Tried (l.fn.r.digits * 2 ^ 54) (place l.counter) l.p.rest l.p.next × Moving (place l.counter) l.m.up l.m.down

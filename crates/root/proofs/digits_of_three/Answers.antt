@@ -14,9 +14,9 @@ loop-preserved c =
     let r = c.args in
     let s = place (i + 1) in
     let v = moving_above i h l.m.up l.m.down l.invariant.3 in (
-      c.step-a.ensures (r.x * 2 ^ 54) s (tried_above i h (r.x * 2 ^ 54) l.a.rest l.a.next l.invariant.0) v,
-      c.step-b.ensures (r.y * 2 ^ 54) s (tried_above i h (r.y * 2 ^ 54) l.b.rest l.b.next l.invariant.1) v,
-      c.step-c.ensures (r.z * 2 ^ 54) s (tried_above i h (r.z * 2 ^ 54) l.c.rest l.c.next l.invariant.2) v,
+      c.step-a.ensures (r.x.digits * 2 ^ 54) s (tried_above i h (r.x.digits * 2 ^ 54) l.a.rest l.a.next l.invariant.0) v,
+      c.step-b.ensures (r.y.digits * 2 ^ 54) s (tried_above i h (r.y.digits * 2 ^ 54) l.b.rest l.b.next l.invariant.1) v,
+      c.step-c.ensures (r.z.digits * 2 ^ 54) s (tried_above i h (r.z.digits * 2 ^ 54) l.c.rest l.c.next l.invariant.2) v,
       c.halved-m.ensures s v,
     )
 
@@ -25,7 +25,7 @@ returns c =
     let l = c.loop in
     let r = c.args in
     let done = tried_last l.counter l.auto.counter-end c.loop-test.false in (
-      c.last_digit.ensures r.x (done (r.x * 2 ^ 54) l.a.rest l.a.next l.invariant.0),
-      c.last_digit-2.ensures r.y (done (r.y * 2 ^ 54) l.b.rest l.b.next l.invariant.1),
-      c.last_digit-3.ensures r.z (done (r.z * 2 ^ 54) l.c.rest l.c.next l.invariant.2),
+      c.last_digit.ensures r.x.digits (done (r.x.digits * 2 ^ 54) l.a.rest l.a.next l.invariant.0),
+      c.last_digit-2.ensures r.y.digits (done (r.y.digits * 2 ^ 54) l.b.rest l.b.next l.invariant.1),
+      c.last_digit-3.ensures r.z.digits (done (r.z.digits * 2 ^ 54) l.c.rest l.c.next l.invariant.2),
     )

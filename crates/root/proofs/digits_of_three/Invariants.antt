@@ -6,4 +6,4 @@ use Rattle.root.proofs.digits_of_three.Given as goal
 
 abbrev pub invariant-loop : goal.invariant-loop
 invariant-loop l =
-    Tried (l.x * 2 ^ 54) (place l.counter) l.a.rest l.a.next × Tried (l.y * 2 ^ 54) (place l.counter) l.b.rest l.b.next × Tried (l.z * 2 ^ 54) (place l.counter) l.c.rest l.c.next × Moving (place l.counter) l.m.up l.m.down
+    Tried (l.fn.x.digits * 2 ^ 54) (place l.counter) l.a.rest l.a.next × Tried (l.fn.y.digits * 2 ^ 54) (place l.counter) l.b.rest l.b.next × Tried (l.fn.z.digits * 2 ^ 54) (place l.counter) l.c.rest l.c.next × Moving (place l.counter) l.m.up l.m.down

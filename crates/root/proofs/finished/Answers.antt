@@ -1,21 +1,21 @@
 -- `finished` meets its contract: the pattern is that of the rounded root (`Trials`).
 use Rattle.std.proofs.Common.{◌∙◌, arith}
+use Rattle.root.specs.Steps.{Sized}
 use Rattle.root.proofs.Trials.{bounds, no_nan-pattern, root_pattern}
 use Rattle.root.proofs.finished.Goals as goal
+use Rattle.root.proofs.finished.Goals.{In-None}
 
-pub overflow_add-result : goal.overflow_add-result
-overflow_add-result c = let s = c.requires.0.scale in omega arith
+sized : (c : In-None) → Sized c.args.r.radicand.digits c.args.r.radicand.half
+sized c = let d = c.args.r.radicand in record { least = d.least; most = d.most; scale = d.scale }
 
-pub overflow_add-result-then-r : goal.overflow_add-result-then-r
-overflow_add-result-then-r c =
-    let b = (bounds c.args.r.radicand c.args.r.half c.args.digits c.requires.0 c.requires.1).1 in
+pub overflow_add-result-in-None : goal.overflow_add-result-in-None
+overflow_add-result-in-None c =
+    let d = c.args.r.radicand in
+    let b = (bounds d.digits d.half c.args.digits (sized (goal.at.overflow_add-result-in-None c).In-None) c.requires).1 in
     omega arith
 
 pub float_from_bits-result : goal.float_from_bits-result
-float_from_bits-result c = no_nan-pattern c.args.r.radicand c.args.r.half c.args.digits c.requires.0 c.requires.1
+float_from_bits-result c = let d = c.args.r.radicand in no_nan-pattern d.digits d.half c.args.digits (sized (goal.at.float_from_bits-result c).In-None) c.requires
 
-pub returns-then-r : goal.returns-then-r
-returns-then-r c x w = root_pattern c.args.r.radicand c.args.r.half c.args.digits c.requires.0 c.requires.1 ∙ w.worked c.if-r.true
-
-pub returns : goal.returns
-returns c x w = w.known c.if-r.false
+pub returns-in-None : goal.returns-in-None
+returns-in-None c x w = let d = c.args.r.radicand in root_pattern d.digits d.half c.args.digits (sized (goal.at.returns-in-None c).In-None) c.requires ∙ w.worked c.in-None.is

@@ -1,5 +1,5 @@
 -- `made_ready` meets its contract: each kind of value has its own case (`Values`).
-use Rattle.std.proofs.Common.{◌*◌, ◌^◌, T, sym, ap, ◌∙◌, true≢false}
+use Rattle.std.proofs.Common.{◌*◌, ◌^◌, T, sym, ap, ◌∙◌}
 use lib.Ieee.{of_bits}
 use lib.Ieee.Positive.{positive}
 use Rattle.bits.specs.Parts.{Decoded}
@@ -16,18 +16,18 @@ above : (c : In-Some) → T (positive c.args.x)
 unfolding of_bits
 above c = is_positive c.args.x c.if-x.true (sym c.in-Some.ensures.kind)
 
-pub aligned-a-requires : goal.aligned-a-requires
-aligned-a-requires c =
+pub aligned-requires : goal.aligned-requires
+aligned-requires c =
     let p = c.in-Some.p in
-    let d = decoded (goal.at.aligned-a-requires c).In-Some in
-    (some_digits c.args.x p.negative p.digits p.exponent (above (goal.at.aligned-a-requires c).In-Some) d.value, d.digits, d.scale)
+    let d = decoded (goal.at.aligned-requires c).In-Some in
+    some_digits c.args.x p.negative p.digits p.exponent (above (goal.at.aligned-requires c).In-Some) d.value
 
 pub returns-then-x : goal.returns-then-x
 returns-then-x c =
     let p = c.in-Some.p in
-    let a = c.aligned-a.ensures in
+    let a = c.aligned.ensures in
     let e = ap round_root a.same ∙ sym (root_at c.args.x p.negative (p.digits * 2 ^ p.exponent) (above (goal.at.returns-then-x c).In-Some) (decoded (goal.at.returns-then-x c).In-Some).value) in
-    record { sized = a.sized; worked = (λ h. e); known = (λ h. absurd (true≢false h)) }
+    record { sized = a.sized; worked = (λ h. e); known = (λ v h. absurd (cc)) }
 
 pub returns-in_default : goal.returns-in_default
 unfolding of_bits

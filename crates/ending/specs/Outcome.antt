@@ -1,5 +1,5 @@
 -- What a run has come to, and the text that is printed of it (01, "The program reads standard input"). Definitions only.
-use Rattle.std.specs.Prelude.{ℕ, Bool, List, take}
+use Rattle.std.specs.Prelude.{ℕ, Bool, List, take, Result, Ok, Err}
 use Rattle.laws.specs.Ladder.{when◌gives◌else◌}
 use Rattle.page.specs.Page.{bad_line, failed_line}
 use Rattle.ending.specs.declared.outcome.State.{State}
@@ -9,6 +9,11 @@ pub data Outcome : Type 0 where
   Start : Outcome
   Sheet : List ℕ → Outcome
   Bad : ℕ → Outcome
+
+-- what a run came to, or, on Err, had come to before a read that failed
+abbrev pub state_of : Result State State → State
+state_of (Ok st) = st
+state_of (Err st) = st
 
 -- what the lines that were taken have come to
 unfoldable pub ended_of : State → List ℕ → Outcome

@@ -3,75 +3,60 @@
 
 mod outcome;
 
-ghost use Rattle.std.specs.Prelude.{◌≡◌, false, not};
-ghost use Rattle.laws.specs.Ladder.{when◌gives◌else◌};
-ghost use Rattle.page.specs.Page.{page_of};
+ghost use Rattle.std.specs.Prelude.{◌≡◌, false};
+ghost use Rattle.std.specs.Result.{is_err};
 ghost use Rattle.files.specs.Output.{output_of, Wrote};
-ghost use Rattle.files.specs.Notes.{cannot_write};
-ghost use Rattle.ending.specs.Ending.{done_text, Told};
+ghost use Rattle.ending.specs.Outcome.{state_of, text_of};
+ghost use Rattle.ending.specs.Ending.{kept_or, Told};
 
-use files::Output;
+use files::{Output, Program};
 use outcome::put_text;
-pub use outcome::{State, bytes, least, put_instead};
+pub use outcome::{Legs, Page, State, bytes, put_instead};
 use page::{LARGEST, ROOM};
 
-// The text, once the file is saved; where it could not be, that alone.
+// The text, once the file is saved; where it could not be, that alone. The Err has the file's name.
 pub fn write_run(
-    rt: &HostRuntime,
-    program: &[u8],
-    output: i32,
-    name: &[u8],
-    ok: bool,
+    program: Program<'_>,
+    saved: Result<(), &[u8]>,
     failed: bool,
     text: &[u8],
 ) -> Output
-    ensures { Wrote (output_of output) (when not ok gives cannot_write name.now else text.now) result }
+    ensures { Wrote (output_of program.entry.output) (kept_or saved.entry text.now) result }
 {
-    if !ok {
-        files::tell(
-            rt,
-            program,
+    if let Err(name) = saved {
+        program.tell(
             b": the file could not be written, and holds what it held; see to its folder and run it again\n",
         );
-        return files::cannot_write(rt, files::begin(output), name);
+        return program.begin().cannot_write(program.rt, name);
     }
     if failed {
-        files::tell(
-            rt,
-            program,
+        program.tell(
             b": the input could not be read to its end, so no sheet is printed; give it again as a whole\n",
         );
     }
-    files::put(rt, files::begin(output), text)
+    program.begin().put(program.rt, text)
 }
 
-// The same, of the page of the sheet that the run came to.
-pub fn write_page(
-    rt: &HostRuntime,
-    program: &[u8],
-    output: i32,
-    name: &[u8],
-    ok: bool,
-    failed: bool,
-    st: State,
+// The same, of the page of the sheet that the run came to, or, on Err, had come to before a read that failed.
+pub fn write_page<P: Page>(
+    program: Program<'_>,
+    saved: Result<(), &[u8]>,
+    end: Result<State, State>,
     sheet: &[u8; LARGEST],
 ) -> Output
-    ensures { Wrote (output_of output) (done_text page_of name.now ok failed st sheet.now) result }
+    ensures { Wrote (output_of program.entry.output) (kept_or saved.entry (text_of P.text (is_err end) (state_of end) sheet.now)) result }
 {
     let mut out = [0u8; ROOM];
-    let n = put_text(failed, st, sheet, &mut out);
-    write_run(rt, program, output, name, ok, failed, &out[0..n])
+    let n = put_text::<P>(end, sheet, &mut out);
+    write_run(program, saved, end.is_err(), &out[..n])
 }
 
 // What was written may be cut off: then standard error is told so.
-pub fn tell_cut(rt: &HostRuntime, program: &[u8], out: Output)
-    ensures { out.ok ≡ false → Told program.now }
+pub fn tell_cut(program: Program<'_>, out: Output)
+    ensures { out.ok ≡ false → Told program.entry.name.now }
 {
-    if !out.ok {
-        files::tell(
-            rt,
-            program,
-            b": the output could not be written, and what is there is cut off; run it again\n",
-        );
-    }
+    program.tell_lost(
+        out,
+        b": the output could not be written, and what is there is cut off; run it again\n",
+    );
 }

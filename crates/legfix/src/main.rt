@@ -1,18 +1,23 @@
 // Edits on the sheet in a file: standard input to the file, and to standard output.
 #![tactic(auto)]
 
-use files::{Source, WORD};
+use files::{Program, STDOUT, Source, WORD};
 
-fn on_file(rt: &HostRuntime) {
+fn on_file(program: Program<'_>) {
     let mut name = [0u8; WORD];
-    let name = files::word(rt, 1, &mut name);
-    fixing::fix(rt, b"legfix", Source::Standard, files::STDOUT, name);
+    let name = files::word(program.rt, 1, &mut name);
+    fixing::fix(program, Source::Standard, name);
 }
 
 fn main(rt: HostRuntime) {
+    let program = Program {
+        rt: &rt,
+        name: b"legfix",
+        output: STDOUT,
+    };
     if files::word_count(&rt) == 2 {
-        on_file(&rt);
+        on_file(program);
         return;
     }
-    files::usage(&rt, files::begin(files::STDOUT), b"legfix FILE");
+    program.usage(b"legfix FILE");
 }

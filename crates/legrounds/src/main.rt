@@ -1,12 +1,17 @@
 // The rounds that working out each leg makes: standard input to standard output.
 #![tactic(auto)]
 
-use files::Source;
+use files::{Program, STDOUT, Source};
 
 fn main(rt: HostRuntime) {
+    let program = Program {
+        rt: &rt,
+        name: b"legrounds",
+        output: STDOUT,
+    };
     if files::word_count(&rt) == 1 {
-        rounds::run(&rt, b"legrounds", Source::Standard, files::STDOUT);
+        rounds::run(program, Source::Standard);
         return;
     }
-    files::usage(&rt, files::begin(files::STDOUT), b"legrounds");
+    program.usage(b"legrounds");
 }

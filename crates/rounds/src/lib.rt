@@ -1,21 +1,18 @@
 // The page of legrounds, for each row its number, its function, and the rounds that working out its answer makes; and its run, which is legsheet's but for the page.
 #![tactic(auto)]
 
-ghost use Rattle.std.specs.Prelude.{◌≡◌, true, false, [], ◌+◌, ◌≤◌, ◌<◌, length};
+ghost use Rattle.std.specs.Prelude.{◌≡◌, false, [], ◌+◌, ◌≤◌, ◌<◌, length};
 ghost use Rattle.ledger.specs.Sheet.{most_rows};
 ghost use Rattle.text.specs.Writing.{Put};
-ghost use Rattle.ending.specs.Outcome.{Start, text_of};
+ghost use Rattle.ending.specs.Outcome.{Start};
 ghost use Rattle.files.specs.Calls.{number_of};
-ghost use Rattle.files.specs.Output.{output_of, Wrote};
-ghost use Rattle.ending.specs.Ending.{done_text};
 ghost use Rattle.runner.specs.Done.{Done};
 ghost use Rattle.rounds.specs.Rounds.{rounds_in, rounds_line, rounds_page};
 
-use ending::State;
-use files::{Output, Source};
+use ending::Page;
+use files::{Program, Source};
 use ledger::pattern_at;
-use line::LONGEST;
-use page::{LARGEST, ROOM, shown};
+use page::{ROOM, shown};
 use text::put_three;
 
 // The rounds that working out this row makes.
@@ -48,57 +45,27 @@ pub fn put_rounds(out: &mut [u8; ROOM], sheet: &[u8]) -> usize
     ensures put { Put out.old out.new 0 result (rounds_page sheet.now) }
     ensures upper_bound { result ≤ length out.new }
 {
-    let rows = shown(sheet);
-    let mut i: u32 = 0;
     let mut at: usize = 0;
-    while i < rows {
+    for i in 0..shown(sheet) {
         at = put_line(out, at, sheet, i);
-        i += 1;
     }
     at
 }
 
-// What is printed in the end, at the start of the buffer: its length.
-fn put_text(failed: bool, st: State, sheet: &[u8; LARGEST], out: &mut [u8; ROOM]) -> usize
-    ensures put { Put out.old out.new 0 result (text_of rounds_page failed st sheet.now) }
-    ensures upper_bound { result ≤ length out.new }
-{
-    if failed | st.bad {
-        return ending::put_instead(failed, st.lines, out);
-    }
-    put_rounds(out, ending::bytes(st, sheet))
-}
+// The page of legrounds.
+pub struct Rounds;
 
-fn write_text(
-    rt: &HostRuntime,
-    program: &[u8],
-    output: i32,
-    failed: bool,
-    st: State,
-    sheet: &[u8; LARGEST],
-) -> Output
-    ensures { Wrote (output_of output) (done_text rounds_page [] true failed st sheet.now) result }
-{
-    let mut out = [0u8; ROOM];
-    let n = put_text(failed, st, sheet, &mut out);
-    ending::write_run(
-        rt,
-        program,
-        output,
-        &program[0..0],
-        true,
-        failed,
-        &out[0..n],
-    )
+impl Page for Rounds {
+    ghost text = { rounds_page };
+
+    fn put(out: &mut [u8; ROOM], sheet: &[u8]) -> usize {
+        put_rounds(out, sheet)
+    }
 }
 
 // One run, from an input to an output.
-pub fn run(rt: &HostRuntime, program: &[u8], input: Source<'_>, output: i32)
-    ensures { Done (number_of input.entry) output rounds_page false [] Start }
+pub fn run(program: Program<'_>, input: Source<'_>)
+    ensures { Done (number_of input.entry) program.entry.output rounds_page false [] Start }
 {
-    let mut line = [0u8; LONGEST];
-    let mut sheet = [0u8; LARGEST];
-    let end = runner::take_all(rt, input, runner::start(), &mut line, &mut sheet);
-    let out = write_text(rt, program, output, end.failed, end.st, &sheet);
-    ending::tell_cut(rt, program, out);
+    runner::run_paged::<Rounds>(program, input, None, b"");
 }

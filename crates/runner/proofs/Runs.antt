@@ -1,5 +1,7 @@
 -- One read before others, all lines taken, and the sheet that may be saved. Assumes nothing.
 use Rattle.std.proofs.Common.{◌≡◌, ℕ, suc, ◌≤◌, Bool, true, false, not, eqb, List, [], ◌∷◌, length, take, ℤ, refl, ◌∙◌, arith}
+use Rattle.std.specs.Prelude.{◌||◌, ◌&&◌, Option, Some, None, is_none}
+use Rattle.files.specs.Reads.{count_of}
 use borrow.Author.Tests.{not-true, eqb-false}
 use Rattle.ending.specs.declared.outcome.State.{State}
 use Rattle.ledger.specs.Calls.{is_sheet}
@@ -57,6 +59,22 @@ savable filed failed st m e run =
       comes = simp (not-true st.bad all.1);
       some = eqb-false st.lines 0 (not-true (eqb st.lines 0) all.2);
     }
+
+-- a line was bad, or there was none; or it is neither
+pub unsaved : (bad none : Bool) → (bad || none) ≡ true → (not bad && not none) ≡ false
+unsaved true none e = refl
+unsaved false true e = refl
+unsaved false false e = cc
+
+pub is_saved : (bad none : Bool) → (bad || none) ≡ false → (not bad && not none) ≡ true
+is_saved false false e = refl
+is_saved false true e = cc
+is_saved true none e = cc
+
+-- a read that fails brings nothing
+pub none_counted : (got : Option ℕ) (n : ℕ) → is_none got ≡ true → count_of got n ≡ 0
+none_counted None n e = refl
+none_counted (Some k) n e = cc
 
 -- ---- where a run begins
 

@@ -1,5 +1,6 @@
 -- A whole run: what was read, what was saved, what was written. Definitions only.
-use Rattle.std.specs.Prelude.{◌≡◌, ℕ, Bool, true, false, not, ◌&&◌, List, take, ℤ, ◌==◌}
+use Rattle.std.specs.Prelude.{◌≡◌, ℕ, Bool, true, false, not, ◌&&◌, List, [], take, ℤ, ◌==◌, Option, Some, None}
+use Rattle.std.specs.Borrow.{Bor}
 use Rattle.laws.specs.Ladder.{when◌gives◌else◌}
 use Rattle.ledger.specs.Calls.{is_sheet}
 use Rattle.ending.specs.declared.outcome.State.{State}
@@ -47,6 +48,11 @@ pub record SomeRun (st : State) (m : List ℕ) (failed : Bool) : Type 0 where
   pub ran : Ran input from st m failed
 
 -- ---- what was saved
+
+-- the name of the file that a run is given, and nothing where there is none
+abbrev pub named : Option (Bor (List ℕ)) → List ℕ
+named None = []
+named (Some name) = name.now
 
 -- there is a file, the input was read to its end, no line was bad, and there was one
 unfoldable pub saves : Bool → Bool → State → Bool

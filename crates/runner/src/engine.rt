@@ -26,11 +26,9 @@ fn longer(st: State) -> State
     ensures { result ≡ longer_of st }
 {
     State {
-        lines: st.lines,
         held: st.held + 1,
-        size: st.size,
-        begun: st.begun,
         bad: false,
+        ..st
     }
 }
 
@@ -41,7 +39,7 @@ fn end_line(st: State, line: &[u8], sheet: &mut [u8]) -> State
 {
     let at = st.held;
     if LONGEST < at {
-        let k = std::num::wrapping_add_u64(st.lines, 1);
+        let k = st.lines.wrapping_add(1);
         return between(k, st.size, true);
     }
     take_line(st, &line[0..at], sheet)
@@ -55,7 +53,7 @@ fn step(st: State, b: u8, line: &mut [u8], sheet: &mut [u8]) -> State
     if st.bad {
         return st;
     }
-    if b == 10 {
+    if b == b'\n' {
         return end_line(st, line, sheet);
     }
     let at = st.held;
@@ -75,10 +73,8 @@ pub(crate) fn feed(st: State, part: &[u8], line: &mut [u8], sheet: &mut [u8]) ->
     ensures { room result line.new sheet.new ≡ feed_of (room st line.old sheet.old) part.now }
 {
     let mut now = st;
-    let mut i: usize = 0;
-    while i < part.len() {
-        now = step(now, part[i], line, sheet);
-        i += 1;
+    for b in part {
+        now = step(now, *b, line, sheet);
     }
     now
 }

@@ -7,21 +7,21 @@ mod keeping;
 mod lines;
 mod reading;
 
-ghost use Rattle.std.specs.Prelude.{◌≡◌};
+ghost use Rattle.std.specs.Prelude.{◌≡◌, is_some};
 ghost use Rattle.page.specs.Page.{largest, page_of};
 ghost use Rattle.files.specs.Calls.{number_of};
 ghost use Rattle.runner.specs.Run.{zeros};
 ghost use Rattle.runner.specs.Machine.{longest, room, Begins};
-ghost use Rattle.runner.specs.Done.{begun_of, Done};
+ghost use Rattle.runner.specs.Done.{begun_of, named, Done};
 
-use ending::State;
+use ending::{Legs, Page, State};
 pub use engine::start;
-use files::Source;
+use files::{Program, Source};
 use keeping::keep;
 use line::LONGEST;
 use lines::between;
 use page::LARGEST;
-pub use reading::{Turn, take_all};
+pub use reading::take_all;
 
 // Where a run begins: with the sheet in these bytes, at the front of the memory, or with none where they are no sheet.
 fn begin(from: &[u8], sheet: &mut [u8; LARGEST]) -> State
@@ -35,24 +35,23 @@ fn begin(from: &[u8], sheet: &mut [u8; LARGEST]) -> State
     between(0, from.len(), false)
 }
 
-// A run from an input to an output. It begins with the sheet in `from`, or with none where these bytes are no sheet; where it is filed, the sheet is then in the
-// file of this name.
-pub fn run(
-    rt: &HostRuntime,
-    program: &[u8],
-    input: Source<'_>,
-    output: i32,
-    filed: bool,
-    name: &[u8],
-    from: &[u8],
-)
-    ensures { Done (number_of input.entry) output page_of filed name.now (begun_of from.now) }
+// A run from an input to an output. It begins with the sheet in `from`, or with none where these bytes are no sheet; where there is a file for it, the sheet is then in
+// the file of this name.
+pub fn run(program: Program<'_>, input: Source<'_>, file: Option<&[u8]>, from: &[u8])
+    ensures { Done (number_of input.entry) program.entry.output page_of (is_some file.entry) (named file.entry) (begun_of from.now) }
+{
+    run_paged::<Legs>(program, input, file, from);
+}
+
+// The same by any page.
+pub fn run_paged<P: Page>(program: Program<'_>, input: Source<'_>, file: Option<&[u8]>, from: &[u8])
+    ensures { Done (number_of input.entry) program.entry.output P.text (is_some file.entry) (named file.entry) (begun_of from.now) }
 {
     let mut line = [0u8; LONGEST];
     let mut sheet = [0u8; LARGEST];
     let st = begin(from, &mut sheet);
-    let end = take_all(rt, input, st, &mut line, &mut sheet);
-    let ok = keep(rt, filed, name, end, &sheet);
-    let out = ending::write_page(rt, program, output, name, ok, end.failed, end.st, &sheet);
-    ending::tell_cut(rt, program, out);
+    let end = take_all(program.rt, input, st, &mut line, &mut sheet);
+    let saved = keep(program.rt, file, end, &sheet);
+    let out = ending::write_page::<P>(program, saved, end, &sheet);
+    ending::tell_cut(program, out);
 }

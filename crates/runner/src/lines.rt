@@ -5,7 +5,7 @@ ghost use Rattle.page.specs.Page.{largest};
 ghost use Rattle.runner.specs.Machine.{held, count_line, edit_line, take_line};
 ghost use Rattle.runner.specs.Machine.{between as Machine·between};
 
-use ending::{State, least};
+use ending::State;
 use ledger::MOST_ROWS;
 use sheet::Entry;
 
@@ -45,7 +45,7 @@ fn edit_line(k: u64, size: usize, s: &[u8], sheet: &mut [u8]) -> State
     let Some(edit) = line::read_edit(s) else {
         return between(k, size, true);
     };
-    let n = least(size, sheet.len());
+    let n = size.min(sheet.len());
     let refusal = sheet::edit(
         &mut sheet[0..n],
         edit.row,
@@ -64,7 +64,7 @@ pub(crate) fn take_line(st: State, s: &[u8], sheet: &mut [u8]) -> State
     requires { length sheet.old ≡ largest }
     ensures { held result sheet.new ≡ take_line st s.now sheet.old }
 {
-    let k = std::num::wrapping_add_u64(st.lines, 1);
+    let k = st.lines.wrapping_add(1);
     if st.begun {
         return edit_line(k, st.size, s, sheet);
     }

@@ -5,7 +5,7 @@ ghost use Rattle.files.specs.Output.{Wrote};
 ghost use Rattle.hexpage.specs.HexPage.{row_line, row_lines, count_line};
 ghost use Rattle.writing.specs.Writing.{written_text, Done, Ran};
 
-use files::{Output, WORD};
+use files::{Output, Program, WORD};
 use hexpage::LINE;
 use loading::MOST;
 
@@ -85,5 +85,10 @@ pub fn run(rt: &HostRuntime, program: &[u8], call: &[u8], output: i32)
     let mut name = [0u8; WORD];
     let name = files::word(rt, 1, &mut name);
     let end = write_file(rt, program, output, name);
-    ending::tell_cut(rt, program, end);
+    let program = Program {
+        rt,
+        name: program,
+        output,
+    };
+    ending::tell_cut(program, end);
 }

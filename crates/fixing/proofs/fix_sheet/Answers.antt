@@ -1,6 +1,4 @@
 -- A run from the sheet, or it is none.
-use mir.Syntax.{w32}
-use mir.ValLaws.{to_z-of_z}
 use Rattle.ledger.specs.laws.Refusals.{a_sheet, no_sheet}
 use Rattle.runner.specs.Done.{begun_of}
 use Rattle.fixing.specs.Fixed.{unfit, fixed}
@@ -12,10 +10,10 @@ returns-then-total_refusal-eq0 c =
     let bytes = c.args.bytes.now in
     let q = c.total_refusal in
     let sheet = a_sheet bytes q.result q.ensures c.if-total_refusal-eq0.true in
-    fixed bytes c.requires sheet (rw (to_z-of_z w32 c.args.output c.ranges.output, sheet) at c.run.ensures)
+    fixed bytes c.requires sheet (rw sheet at c.run.ensures)
 
 pub returns : goal.returns
 returns c =
     let bytes = c.args.bytes.now in
     let q = c.total_refusal in
-    unfit bytes c.refused_7-out.result c.requires (no_sheet bytes q.result q.ensures c.if-total_refusal-eq0.false) (rw (c.begin.ensures, to_z-of_z w32 c.args.output c.ranges.output) at c.refused_7-out.ensures)
+    unfit bytes c.refused_7-out.result c.requires (no_sheet bytes q.result q.ensures c.if-total_refusal-eq0.false) (rw c.begin.ensures at c.refused_7-out.ensures)

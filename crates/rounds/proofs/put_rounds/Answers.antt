@@ -1,6 +1,5 @@
 -- The lines so far stand in the buffer, at most 30 bytes a row.
-use mathlib.Core.Path.{◌≡◌, refl}
-use native.Mathlib.Omega.{arith}
+use Rattle.std.proofs.Common.{◌≡◌, refl, arith}
 use Rattle.text.specs.laws.Lines.{none_yet, one_more_lem}
 use Rattle.rounds.specs.Rounds.{rounds_line, rounds_lines, rounds_page}
 use Rattle.rounds.proofs.put_rounds.Goals as goal
@@ -9,7 +8,7 @@ pub loop-i-init : goal.loop-i-init
 unfolding rounds_lines
 loop-i-init c =
     let a = c.args in
-    (omega arith, omega arith, none_yet (rounds_line a.sheet.now) (rounds_lines a.sheet.now) a.out.now 0 30 refl)
+    (omega arith, none_yet (rounds_line a.sheet.now) (rounds_lines a.sheet.now) a.out.now 0 30 refl)
 
 pub put_line-at-requires : goal.put_line-at-requires
 put_line-at-requires c = (omega arith, omega arith)
@@ -19,15 +18,13 @@ unfolding rounds_lines
 loop-i-preserved c =
     let a = c.args in
     let l = c.loop-i in
-    let n = c.shown-rows.ensures in
     let p = c.put_line-at.ensures in
-    let line = one_more_lem (rounds_line a.sheet.now) (rounds_lines a.sheet.now) a.out.now 0 30 l.i refl l.invariant.2 p.put p.upper_bound (omega arith) in
-    (omega arith, omega (arith, line.short, line.same), line)
+    let line = one_more_lem (rounds_line a.sheet.now) (rounds_lines a.sheet.now) a.out.now 0 30 l.i refl l.invariant.1 p.put p.upper_bound (omega arith) in
+    (omega (arith, line.short, line.same), line)
 
 pub returns : goal.returns
 unfolding rounds_page
 returns c =
     let l = c.loop-i in
-    let n = c.shown-rows in
-    let e : l.i ≡ n.result = omega arith in
-    record { put = rw (e, n.ensures.0) at l.invariant.2.text; upper_bound = l.invariant.1 }
+    let e : l.i ≡ c.shown-i-end.result = omega arith in
+    record { put = rw (e, c.shown-i-end.ensures.0) at l.invariant.1.text; upper_bound = l.invariant.0 }

@@ -1,11 +1,11 @@
--- A read failed, or a line was bad.
+-- A line was bad, or a read failed.
 use Rattle.ending.specs.Outcome.{instead_of}
 use Rattle.ending.proofs.outcome.put_instead.Goals as goal
 
-pub returns-then-failed : goal.returns-then-failed
+pub returns-in-Ok-clause-put : goal.returns-in-Ok-clause-put
 unfolding instead_of
-returns-then-failed c = record { put = simp c.if-failed.true c.put_failed.ensures.put; upper_bound = c.put_failed.ensures.upper_bound }
+returns-in-Ok-clause-put c = rw c.in-Ok.is c.put_bad.ensures.put
 
-pub returns : goal.returns
+pub returns-in-Err-clause-put : goal.returns-in-Err-clause-put
 unfolding instead_of
-returns c = record { put = simp c.if-failed.false c.put_bad.ensures.put; upper_bound = c.put_bad.ensures.upper_bound }
+returns-in-Err-clause-put c = rw c.in-Err.is c.put_failed.ensures.put

@@ -1,13 +1,19 @@
 -- The line instead, or the page of the sheet in its memory.
-use Rattle.page.specs.Page.{page_of}
+use Rattle.std.proofs.Common.{◌≡◌, true, false, refl, sym, ap, ◌∙◌}
+use Rattle.ending.specs.Outcome.{state_of}
 use Rattle.ending.specs.laws.Texts.{instead, shown}
 use Rattle.ending.proofs.outcome.put_text.Goals as goal
 
-pub returns-then-failed-st : goal.returns-then-failed-st
-returns-then-failed-st c =
-    let a = c.args in
-    record { put = rw (← instead page_of a.st a.sheet.now a.failed c.if-failed-st.true) c.put_instead.ensures.put; upper_bound = c.put_instead.ensures.upper_bound }
+pub returns-in-Err-clause-put : goal.returns-in-Err-clause-put
+returns-in-Err-clause-put g c =
+    rw c.in-Err.is (rw (← instead g.P.Page.text c.in-Err.field-0 c.args.sheet.now true refl) (rw c.in-Err.is at c.put_instead.ensures.put))
 
-pub returns : goal.returns
-returns c =
-    let a = c.args in record { put = rw (← shown page_of a.st a.sheet.now a.failed c.if-failed-st.false, ← c.bytes.ensures) c.put_page.ensures.put; upper_bound = c.put_page.ensures.upper_bound }
+pub returns-in-Ok-clause-put : goal.returns-in-Ok-clause-put
+returns-in-Ok-clause-put g c =
+    rw c.in-Ok.is (rw (← instead g.P.Page.text c.in-Ok.st c.args.sheet.now false c.if-st.true) (rw c.in-Ok.is at c.put_instead-in-Ok.ensures.put))
+
+pub returns-in-Ok-2-clause-put : goal.returns-in-Ok-2-clause-put
+returns-in-Ok-2-clause-put g c =
+    let same : c.in-Ok.st ≡ c.in-Ok-2.st = ap state_of (sym c.in-Ok.is ∙ c.in-Ok-2.is) in
+    let good : c.in-Ok-2.st.bad ≡ false = rw same at c.if-st.false in
+    rw c.in-Ok-2.is (rw (← shown g.P.Page.text c.in-Ok-2.st c.args.sheet.now false good, ← c.bytes.ensures) c.put.ensures.put)

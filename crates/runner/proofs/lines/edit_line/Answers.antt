@@ -10,7 +10,7 @@ returns-in_default c =
 pub returns : goal.returns
 returns c =
     let a = c.args in
-    let n = c.least-n in
+    let n = c.min-n in
     let q = c.edit-refusal in
     rw c.between-2.ensures
     (edit_made a.k a.size a.sheet.now c.read_edit.ensures _ n.result q.result c.in-Some.is

@@ -6,11 +6,9 @@ use Rattle.runner.proofs.lines.take_line.Goals as goal
 pub returns-then-st : goal.returns-then-st
 unfolding take_line
 returns-then-st c =
-    c.edit_line.ensures
-    ∙ rw c.wrapping_add_u64-k.ensures.value (simp c.if-st.true)
+    c.edit_line.ensures ∙ simp c.if-st.true
 
 pub returns : goal.returns
 unfolding take_line
 returns c =
-    c.count_line.ensures
-    ∙ rw c.wrapping_add_u64-k.ensures.value (simp c.if-st.false)
+    c.count_line.ensures ∙ simp c.if-st.false

@@ -1,6 +1,7 @@
 -- A month's files, one after the other, and what their report must say (02, [2]). Definitions only.
-use Rattle.std.specs.Prelude.{◌≡◌, ℕ, ◌+◌, ◌*◌, ◌<◌, Bool, true, false, cond, ◌⊎◌, List, [], ◌∷◌, ◌++◌, length, ◌==◌, slice_index}
+use Rattle.std.specs.Prelude.{◌≡◌, ℕ, ◌+◌, ◌*◌, ◌<◌, Bool, true, false, cond, ◌⊎◌, List, [], ◌∷◌, ◌++◌, length, slice_index, Option, Some, None}
 use Rattle.std.specs.Float.Ieee.{eq}
+use Rattle.std.specs.Result.{is_ok}
 use Rattle.laws.specs.Arithmetic.{float}
 use Rattle.laws.specs.Ladder.{when◌gives◌else◌}
 use Rattle.total.specs.Total.{val, limbs_of, negative, size_of}
@@ -8,7 +9,7 @@ use Rattle.ledger.specs.Sheet.{refused_class, finite_class, class_of, value_of}
 use Rattle.ledger.specs.Calls.{plus}
 use Rattle.month.specs.declared.parts.Extreme.{Extreme}
 use Rattle.month.specs.declared.parts.Report.{Report}
-use Rattle.month.specs.Month.{Leg, legs_of, pattern_in, stop_of, count_of, refused_of, total_of, extreme_of, none, beyond, added_of}
+use Rattle.month.specs.Month.{Leg, legs_of, pattern_in, stop_of, count_of, refused_of, total_of, extreme_of, beyond, added_of}
 
 -- ---- files
 
@@ -22,7 +23,7 @@ abbrev pub most_files : ℕ
 most_files = 400
 
 abbrev pub taken : List ℕ → Bool
-taken s = (stop_of s).refusal == 0
+taken s = is_ok (stop_of s)
 
 -- the report after these files, from one that stands
 unfoldable pub month_on : Report → List File → Report
@@ -49,8 +50,8 @@ pub record Meaning (fs : List File) (r : Report) : Type 0 where
   pub sheets : r.sheets ≡ sheets_in fs
   pub counts : (k : ℕ) → k < 5 → slice_index r.counts k ≡ count_of k (all_legs fs)
   pub refusals : (q : ℕ) → q < 32 → slice_index r.refusals q ≡ refused_of q (all_legs fs)
-  pub total : val r.total ≡ total_of (all_legs fs)
-  pub limbs : r.total ≡ limbs_of (total_of (all_legs fs))
+  pub total : val r.total.limbs ≡ total_of (all_legs fs)
+  pub limbs : r.total.limbs ≡ limbs_of (total_of (all_legs fs))
   pub largest : r.largest ≡ extreme_of true (all_legs fs)
   pub smallest : r.smallest ≡ extreme_of false (all_legs fs)
   -- the five counts add up to the rows, and the refusal numbers to the fifth count
@@ -69,11 +70,11 @@ abbrev pub Finite : Leg → Type 0
 Finite l = class_of l.bytes ≡ finite_class
 
 -- an extreme that shows a leg
-abbrev pub shows : Leg → Extreme
-shows l = record { found = true; pattern = pattern_in l.bytes; sheet = l.sheet; row = l.row }
+abbrev pub shows : Leg → Option Extreme
+shows l = Some (record { pattern = pattern_in l.bytes; sheet = l.sheet; row = l.row })
 
 -- the earliest of the legs beyond which no other lies: it is strictly beyond those before it, and none after it is strictly beyond it
-pub record First (top : Bool) (ls : List Leg) (e : Extreme) : Type 0 where
+pub record First (top : Bool) (ls : List Leg) (e : Option Extreme) : Type 0 where
   pub before : List Leg
   pub leg : Leg
   pub after : List Leg
@@ -84,8 +85,8 @@ pub record First (top : Bool) (ls : List Leg) (e : Extreme) : Type 0 where
   pub kept : Each (λ (l : Leg). Finite l → beyond top (pattern_in leg.bytes) (pattern_in l.bytes) ≡ false) after
 
 -- none where no first answer is finite
-abbrev pub Shown : Bool → List Leg → Extreme → Type 0
-Shown top ls e = ((e ≡ none) × Each (λ (l : Leg). Finite l → ⊥) ls) ⊎ First top ls e
+abbrev pub Shown : Bool → List Leg → Option Extreme → Type 0
+Shown top ls e = ((e ≡ None) × Each (λ (l : Leg). Finite l → ⊥) ls) ⊎ First top ls e
 
 -- ---- the total as a whole number: times by first answers above zero, and below, in units of 2^-1074
 
@@ -112,9 +113,11 @@ contents [] = []
 contents (f ∷ fs) = f.bytes ∷ contents fs
 
 -- equal as numbers, or none on both sides; the sheet, the row and which of several equal patterns may differ
-pub record Alike (e f : Extreme) : Type 0 where
-  pub found : e.found ≡ f.found
-  pub pattern : e.found ≡ true → eq (float e.pattern) (float f.pattern) ≡ true
+abbrev pub Alike : Option Extreme → Option Extreme → Type 0
+Alike None None = Unit {0}
+Alike None (Some f) = ⊥
+Alike (Some e) None = ⊥
+Alike (Some e) (Some f) = eq (float e.pattern) (float f.pattern) ≡ true
 
 -- two reports that differ in no more than that
 pub record SameReport (r q : Report) : Type 0 where

@@ -1,5 +1,6 @@
 -- The month report (02, [2]): legs, what they come to, and the report that takes one sheet after the other. Definitions only.
-use Rattle.std.specs.Prelude.{ℕ, zero, suc, ◌+◌, ◌%◌, ◌^◌, Bool, true, false, cond, not, ◌&&◌, ltb, List, [], ◌∷◌, take, drop, replicate, ◌==◌, nat_eq, slice_index, slice_set}
+use Rattle.std.specs.Prelude.{ℕ, zero, suc, ◌+◌, ◌%◌, ◌^◌, Bool, true, false, cond, not, ◌&&◌, ltb, List, [], ◌∷◌, take, drop, replicate, ◌==◌, nat_eq, slice_index, slice_set, Option, Some, None, Result, Ok, Err, ⊤}
+use Rattle.std.specs.Result.{is_ok}
 use Rattle.laws.specs.Arithmetic.{float, ◌<·◌}
 use Rattle.laws.specs.Ladder.{when◌gives◌else◌}
 use Rattle.total.specs.Total.{val, limbs_of, add_of}
@@ -11,6 +12,7 @@ use Rattle.month.specs.declared.parts.Extreme.{Extreme}
 use Rattle.month.specs.declared.parts.Report.{Report}
 use Rattle.month.specs.declared.parts.Share.{Share}
 use Rattle.month.specs.declared.parts.Stop.{Stop}
+use Rattle.month.specs.declared.parts.Stop.TheVariants.{NotASheet, Damaged}
 
 -- ---- legs
 
@@ -40,12 +42,17 @@ pattern_in w = number (take 8 (drop 32 w))
 
 -- ---- whether a file is taken
 
--- 7, not a sheet; 10, with the first row that refusal 10's row tests reject; 0, taken. Stored counts and totals are not looked at
-unfoldable pub stop_of : List ℕ → Stop
+-- 7, not a sheet; 10, with the first row that refusal 10's row tests reject. Stored counts and totals are not looked at
+unfoldable pub stop_of : List ℕ → Result ⊤ Stop
 stop_of s =
-    when not (is_sheet s) gives record { refusal = 7; row = 0 } else
-    when ltb (first_rejected s) (rows_in s) gives record { refusal = 10; row = first_rejected s } else
-    record { refusal = 0; row = 0 }
+    when not (is_sheet s) gives Err NotASheet else
+    when ltb (first_rejected s) (rows_in s) gives Err (Damaged (first_rejected s)) else
+    Ok tt
+
+-- the number of what stops a file
+abbrev pub number_of : Stop → ℕ
+number_of NotASheet = 7
+number_of (Damaged i) = 10
 
 -- ---- what the legs come to
 
@@ -63,10 +70,6 @@ refused_of q (l ∷ ls) = cond (refused_class == class_of l.bytes && q == refusa
 unfoldable pub total_of : List Leg → ℕ
 total_of [] = 0
 total_of (l ∷ ls) = add_of (total_of ls) l.times (value_of l.bytes)
-
--- none so far
-abbrev pub none : Extreme
-none = record { found = false; pattern = 0; sheet = 0; row = 0 }
 
 -- the second of two patterns is strictly beyond the first: above it (top true) or below it, as numbers
 unfoldable pub beyond : Bool → ℕ → ℕ → Bool
@@ -99,16 +102,21 @@ one_more xs k = slice_set xs k ((slice_index xs k + 1) % 2 ^ 64)
 unfoldable pub refusals_on : List ℕ → Share → List ℕ
 refusals_on xs h = when nat_eq refused_class h.class gives one_more xs h.refusal else xs
 
+-- whether the one that stands stays: a pattern is not strictly beyond it
+abbrev pub stays : Bool → Option Extreme → ℕ → Bool
+stays top None p = false
+stays top (Some e) p = not (beyond top e.pattern p)
+
 -- a finite first answer takes the place of the one that stands only where it is strictly beyond: the earliest stays
-unfoldable pub extreme_on : Bool → Extreme → Share → Extreme
+unfoldable pub extreme_on : Bool → Option Extreme → Share → Option Extreme
 extreme_on top e h =
     when not (h.class == finite_class) gives e else
-    when e.found && not (beyond top e.pattern h.pattern) gives e else
-    record { found = true; pattern = h.pattern; sheet = h.sheet; row = h.row }
+    when stays top e h.pattern gives e else
+    Some (record { pattern = h.pattern; sheet = h.sheet; row = h.row })
 
 -- the largest (top true) or smallest finite first answer of all
-unfoldable pub extreme_of : Bool → List Leg → Extreme
-extreme_of top ls = fold (λ (e : Extreme) (l : Leg). extreme_on top e (share_of l)) none ls
+unfoldable pub extreme_of : Bool → List Leg → Option Extreme
+extreme_of top ls = fold (λ (e : Option Extreme) (l : Leg). extreme_on top e (share_of l)) None ls
 
 -- a leg's share on the report
 unfoldable pub share_on : Report → Share → Report
@@ -116,7 +124,7 @@ share_on r h = record {
   sheets = r.sheets;
   counts = one_more r.counts h.class;
   refusals = refusals_on r.refusals h;
-  total = limbs_of (add_of (val r.total) h.times h.value);
+  total = record { limbs = limbs_of (add_of (val r.total.limbs) h.times h.value) };
   largest = extreme_on true r.largest h;
   smallest = extreme_on false r.smallest h;
 }
@@ -131,7 +139,7 @@ legs_on r ls = fold leg_on r ls
 
 -- of no sheet
 unfoldable pub start_of : Report
-start_of = record { sheets = 0; counts = replicate 5 0; refusals = replicate 32 0; total = limbs_of 0; largest = none; smallest = none }
+start_of = record { sheets = 0; counts = replicate 5 0; refusals = replicate 32 0; total = record { limbs = limbs_of 0 }; largest = None; smallest = None }
 
 -- one more sheet
 unfoldable pub sheet_on : Report → Report
@@ -139,4 +147,4 @@ sheet_on r = record { sheets = (r.sheets + 1) % 2 ^ 64; counts = r.counts; refus
 
 -- sheet n, whose bytes are s: all its legs, in order; a file that is not taken adds nothing
 unfoldable pub added_of : Report → ℕ → List ℕ → Report
-added_of r n s = when nat_eq (stop_of s).refusal 0 gives legs_on (sheet_on r) (legs_of n s) else r
+added_of r n s = when is_ok (stop_of s) gives legs_on (sheet_on r) (legs_of n s) else r

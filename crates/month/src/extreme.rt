@@ -1,34 +1,31 @@
 // The largest and the smallest finite first answer: the earliest of equal ones stays, and -0 is equal to +0.
-ghost use Rattle.std.specs.Prelude.{◌≡◌};
+ghost use Rattle.std.specs.Prelude.{◌≡◌, ℕ, Bool};
+ghost use Rattle.laws.specs.Arithmetic.{float};
 ghost use Rattle.month.specs.Month.{beyond, extreme_on};
 
 use super::parts::{Extreme, Share};
 
-// Whether the second pattern is strictly above the first (top), or below it.
-fn is_beyond(first: u64, second: u64, top: bool) -> bool
-    ensures { result ≡ beyond top first second }
-{
-    let x = bits::from_pattern(first);
-    let y = bits::from_pattern(second);
-    if top {
-        return x < y;
-    }
-    y < x
-}
-
-pub(crate) fn extreme_on(extreme: Extreme, share: Share, top: bool) -> Extreme
-    ensures { result ≡ extreme_on top extreme share }
+// The extreme, or the share's answer where `passes` says that it lies strictly beyond it.
+pub(crate) fn extreme_on<F: Fn(f64, f64) -> bool>(
+    extreme: Option<Extreme>,
+    share: Share,
+    passes: F,
+) -> Option<Extreme>
+    requires { F.IsAlwaysCallable passes }
+    ensures { (top : Bool) → ((p q : ℕ) (b : Bool) → F.post passes (float p) (float q) b → b ≡ beyond top p q) → result ≡ extreme_on top extreme share }
 {
     if share.class != 1 {
         return extreme;
     }
-    if extreme.found & !is_beyond(extreme.pattern, share.pattern, top) {
-        return extreme;
+    if let Some(held) = extreme {
+        let next = bits::from_pattern(share.pattern);
+        if !passes(bits::from_pattern(held.pattern), next) {
+            return extreme;
+        }
     }
-    Extreme {
-        found: true,
+    Some(Extreme {
         pattern: share.pattern,
         sheet: share.sheet,
         row: share.row,
-    }
+    })
 }

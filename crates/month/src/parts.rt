@@ -1,30 +1,33 @@
 // What a report and its steps hold. (A function and a struct of one name do not stand in one file.)
+use total::Total;
 
-// Why a file is not taken: 7, or 10 and the row it is about; 0 where it is taken.
+// Why a file is not taken.
 #[derive(Clone, Copy)]
-pub struct Stop {
-    pub refusal: u8,
-    pub row: u32,
+pub enum Stop {
+    // 7: it is no sheet.
+    NotASheet,
+    // 10: its first row that refusal 10's row tests reject.
+    Damaged(u32),
 }
 
-// The largest or smallest finite first answer so far, as a bit pattern, and where it stands.
+// A finite first answer, as a bit pattern, and where it stands.
 #[derive(Clone, Copy)]
 pub struct Extreme {
-    pub found: bool,
     pub pattern: u64,
     pub sheet: u32,
     pub row: u32,
 }
 
-// Sheets taken; rows by class; rows of class refused by their number; the exact total; the extremes.
+// Sheets taken; rows by class; rows of class refused by their number; the exact total; the largest and the smallest
+// finite first answer, where there is one.
 #[derive(Clone, Copy)]
 pub struct Report {
     pub sheets: u64,
     pub counts: [u64; 5],
     pub refusals: [u64; 32],
-    pub total: [u64; 34],
-    pub largest: Extreme,
-    pub smallest: Extreme,
+    pub total: Total,
+    pub largest: Option<Extreme>,
+    pub smallest: Option<Extreme>,
 }
 
 // What a leg brings to the report.

@@ -9,11 +9,7 @@ use super::parts::Share;
 fn refusal_of(sheet: &[u8], row: u32) -> u8
     ensures { result ≡ refusal_in (read_of sheet.now row) }
 {
-    let bytes = ledger::read_row(sheet, row);
-    if bytes.len() < 2 {
-        return 0;
-    }
-    bytes[1]
+    ledger::read_row(sheet, row).get(1).copied().unwrap_or(0)
 }
 
 pub(crate) fn share_of(sheet: &[u8], number: u32, row: u32) -> Share
@@ -27,6 +23,6 @@ pub(crate) fn share_of(sheet: &[u8], number: u32, row: u32) -> Share
         value: inspection::row_value(sheet, row),
         pattern: inspection::row_word(sheet, row, 4),
         sheet: number,
-        row: row,
+        row,
     }
 }

@@ -1,5 +1,5 @@
 -- What legmonth prints (02, [2]): the month's report, line by line, and the start of the line of a file that is not taken. Definitions only.
-use Rattle.std.specs.Prelude.{ℕ, zero, suc, List, [], ◌++◌, get_or, leb, eqb}
+use Rattle.std.specs.Prelude.{ℕ, zero, suc, List, [], ◌++◌, get_or, leb, eqb, Option, Some, None}
 use Rattle.std.specs.Float.{binary64}
 use Rattle.std.specs.Float.Ieee.{to_bits}
 use Rattle.laws.specs.Ascii.{ascii}
@@ -33,10 +33,9 @@ unfoldable pub place_text : ℕ → ℕ → List ℕ
 place_text sheet row = note (ascii "sheet ") sheet ++ space ++ note (ascii "row ") row ++ end
 
 -- the largest or the smallest finite first answer, or none
-unfoldable pub extreme_text : List ℕ → Extreme → List ℕ
-extreme_text words e =
-    when e.found gives words ++ pattern e.pattern ++ space ++ place_text e.sheet e.row else
-    words ++ ascii "none\n"
+unfoldable pub extreme_text : List ℕ → Option Extreme → List ℕ
+extreme_text words None = words ++ ascii "none\n"
+extreme_text words (Some e) = words ++ pattern e.pattern ++ space ++ place_text e.sheet e.row
 
 -- a refusal number and how many rows hold it; no line where none does
 unfoldable pub refusal_text : ℕ → ℕ → List ℕ
@@ -58,12 +57,12 @@ head_text sheets apart counts = note (ascii "sheets ") sheets ++ end ++ note (as
 unfoldable pub sums_text : ℕ → List ℕ
 sums_text v = total_text v ++ exact_text v
 
-unfoldable pub extremes_text : Extreme → Extreme → List ℕ
+unfoldable pub extremes_text : Option Extreme → Option Extreme → List ℕ
 extremes_text largest smallest = extreme_text (ascii "largest ") largest ++ extreme_text (ascii "smallest ") smallest
 
 -- all of it; apart: how many files were not taken
 unfoldable pub report_text : ℕ → Report → List ℕ
-report_text apart r = head_text r.sheets apart r.counts ++ sums_text (val r.total) ++ extremes_text r.largest r.smallest ++ refusal_lines r.refusals 32
+report_text apart r = head_text r.sheets apart r.counts ++ sums_text (val r.total.limbs) ++ extremes_text r.largest r.smallest ++ refusal_lines r.refusals 32
 
 -- ---- the start of a file's line, its name to follow: 7; 10 and the row; or it can't be read
 

@@ -12,6 +12,7 @@ ghost use Rattle.monthly.specs.Monthly.{head_text, sums_text, extremes_text, rep
 use lines::{put_counts, put_exact, put_extreme, put_note, put_refusals, put_total};
 use month::{Extreme, Report};
 use text::put_bytes;
+use total::Total;
 
 // Room for a report: at most 7 lines, the exact total's among them, and 32 of refusals.
 pub const ROOM: usize = 4096;
@@ -21,12 +22,17 @@ fn put_head(out: &mut [u8], sheets: u64, apart: u64, counts: [u64; 5]) -> usize
     requires { 167 ≤ length out.old }
     ensures { Placed out.old out.new 0 result 167 (head_text sheets apart counts) }
 {
-    let a = put_note(out, 0, b"sheets ", sheets, 10);
-    let b = put_note(out, a, b"apart ", apart, 10);
+    let a = put_note(out, 0, b"sheets ", sheets, b'\n');
+    let b = put_note(out, a, b"apart ", apart, b'\n');
     put_counts(out, b, counts)
 }
 
-fn put_extremes(out: &mut [u8], at: usize, largest: Extreme, smallest: Extreme) -> usize
+fn put_extremes(
+    out: &mut [u8],
+    at: usize,
+    largest: Option<Extreme>,
+    smallest: Option<Extreme>,
+) -> usize
     requires { at + 155 ≤ length out.old }
     ensures { Placed out.old out.new at result 155 (extremes_text largest smallest) }
 {
@@ -34,9 +40,9 @@ fn put_extremes(out: &mut [u8], at: usize, largest: Extreme, smallest: Extreme) 
     put_extreme(out, a, b"smallest ", smallest)
 }
 
-fn put_sums(out: &mut [u8], at: usize, total: [u64; 34]) -> usize
+fn put_sums(out: &mut [u8], at: usize, total: Total) -> usize
     requires { at + 575 ≤ length out.old }
-    ensures { Placed out.old out.new at result 575 (sums_text (val total)) }
+    ensures { Placed out.old out.new at result 575 (sums_text (val total.limbs)) }
 {
     let a = put_total(out, at, total);
     put_exact(out, a, total)
@@ -46,15 +52,10 @@ fn put_lines(out: &mut [u8], report: Report, apart: u64) -> usize
     requires { 2497 ≤ length out.old }
     ensures { Placed out.old out.new 0 result 2497 (report_text apart report) }
 {
-    let counts = report.counts;
-    let refusals = report.refusals;
-    let total = report.total;
-    let largest = report.largest;
-    let smallest = report.smallest;
-    let a = put_head(out, report.sheets, apart, counts);
-    let b = put_sums(out, a, total);
-    let c = put_extremes(out, b, largest, smallest);
-    put_refusals(out, c, refusals)
+    let a = put_head(out, report.sheets, apart, report.counts);
+    let b = put_sums(out, a, report.total);
+    let c = put_extremes(out, b, report.largest, report.smallest);
+    put_refusals(out, c, report.refusals)
 }
 
 // The whole report at the start of the buffer: its length. `apart`: how many files were not taken.
@@ -71,9 +72,9 @@ pub fn put_stop(out: &mut [u8; ROOM], refusal: u8, row: u32) -> usize
     ensures upper_bound { result ≤ length out.new }
 {
     if refusal == 10 {
-        return put_note(out, 0, b"file 10 row ", row as u64, 32);
+        return put_note(out, 0, b"file 10 row ", row as u64, b' ');
     }
-    put_note(out, 0, b"file ", refusal as u64, 32)
+    put_note(out, 0, b"file ", refusal as u64, b' ')
 }
 
 // The start of the line of one that can't be read.

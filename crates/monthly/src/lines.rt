@@ -23,49 +23,53 @@ pub(crate) fn put_counts(out: &mut [u8], at: usize, counts: [u64; 5]) -> usize
     ensures { Placed out.old out.new at result 112 (counts_text counts) }
 {
     let a = put_bytes(out, at, b"counts ");
-    let b = put_three(out, a, counts[0], counts[1], counts[2], 32);
-    let c = put_decimal(out, b, counts[3], 32);
-    put_decimal(out, c, counts[4], 10)
+    let b = put_three(out, a, counts[0], counts[1], counts[2], b' ');
+    let c = put_decimal(out, b, counts[3], b' ');
+    put_decimal(out, c, counts[4], b'\n')
 }
 
-pub(crate) fn put_total(out: &mut [u8], at: usize, total: [u64; 34]) -> usize
+pub(crate) fn put_total(out: &mut [u8], at: usize, total: Total) -> usize
     requires { at + 23 ≤ length out.old }
-    ensures { Placed out.old out.new at result 23 (total_text (val total)) }
+    ensures { Placed out.old out.new at result 23 (total_text (val total.limbs)) }
 {
     let a = put_bytes(out, at, b"total ");
-    let rounded = bits::to_pattern(Total::of(total).rounded());
-    put_pattern(out, a, rounded, 10)
+    let rounded = bits::to_pattern(total.rounded());
+    put_pattern(out, a, rounded, b'\n')
 }
 
 // The exact total, in units of 2^-1074.
-pub(crate) fn put_exact(out: &mut [u8], at: usize, total: [u64; 34]) -> usize
+pub(crate) fn put_exact(out: &mut [u8], at: usize, total: Total) -> usize
     requires { at + 552 ≤ length out.old }
-    ensures { Placed out.old out.new at result 552 (exact_text (val total)) }
+    ensures { Placed out.old out.new at result 552 (exact_text (val total.limbs)) }
 {
     let a = put_bytes(out, at, b"exact ");
-    let size = Total::of(total).size();
-    let limbs = size.limbs;
-    put_whole(out, a, size.negative, &limbs, 10)
+    let size = total.size();
+    put_whole(out, a, size.negative, &size.limbs, b'\n')
 }
 
-fn put_place(out: &mut [u8], at: usize, sheet: u32, row: u32) -> usize
+fn put_place(out: &mut [u8], at: usize, place: Extreme) -> usize
     requires { at + 52 ≤ length out.old }
-    ensures { Placed out.old out.new at result 52 (place_text sheet row) }
+    ensures { Placed out.old out.new at result 52 (place_text place.sheet place.row) }
 {
-    let a = put_note(out, at, b"sheet ", sheet as u64, 32);
-    put_note(out, a, b"row ", row as u64, 10)
+    let a = put_note(out, at, b"sheet ", place.sheet as u64, b' ');
+    put_note(out, a, b"row ", place.row as u64, b'\n')
 }
 
-pub(crate) fn put_extreme(out: &mut [u8], at: usize, words: &[u8], extreme: Extreme) -> usize
+pub(crate) fn put_extreme(
+    out: &mut [u8],
+    at: usize,
+    words: &[u8],
+    extreme: Option<Extreme>,
+) -> usize
     requires { at + (length words.now + 69) ≤ length out.old }
     ensures { Placed out.old out.new at result (length words.now + 69) (extreme_text words.now extreme) }
 {
     let a = put_bytes(out, at, words);
-    if !extreme.found {
+    let Some(held) = extreme else {
         return put_bytes(out, a, b"none\n");
-    }
-    let b = put_pattern(out, a, extreme.pattern, 32);
-    put_place(out, b, extreme.sheet, extreme.row)
+    };
+    let b = put_pattern(out, a, held.pattern, b' ');
+    put_place(out, b, held)
 }
 
 // No line where no row holds the number.
@@ -76,8 +80,8 @@ fn put_refusal(out: &mut [u8], at: usize, number: u64, rows: u64) -> usize
     if rows == 0 {
         return at;
     }
-    let a = put_note(out, at, b"refusal ", number, 32);
-    put_decimal(out, a, rows, 10)
+    let a = put_note(out, at, b"refusal ", number, b' ');
+    put_decimal(out, a, rows, b'\n')
 }
 
 // The numbers rising.
@@ -86,10 +90,8 @@ pub(crate) fn put_refusals(out: &mut [u8], from: usize, refusals: [u64; 32]) -> 
     ensures { Placed out.old out.new from result 1600 (refusal_lines refusals 32) }
 {
     let mut at = from;
-    let mut i: usize = 0;
-    while i < 32 {
-        at = put_refusal(out, at, i as u64, refusals[i]);
-        i += 1;
+    for (i, rows) in refusals.iter().enumerate() {
+        at = put_refusal(out, at, i as u64, *rows);
     }
     at
 }

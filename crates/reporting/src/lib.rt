@@ -7,66 +7,57 @@ mod saying;
 mod taking;
 
 ghost use Rattle.std.specs.Prelude.{◌≤◌};
+ghost use Rattle.files.specs.Output.{output_of};
 ghost use Rattle.month.specs.Files.{most_files};
 ghost use Rattle.reporting.specs.Reporting.{Reported, Ran};
 
-use files::Output;
-pub use parts::Fate;
+use files::{Output, Program};
+pub use parts::Apart;
 use parts::MOST_FILES;
 use saying::{put_files, put_page};
 use taking::gather;
 
 // What is said on standard error where files are not taken.
-fn advise(rt: &HostRuntime, program: &[u8], apart: u64) {
+fn advise(program: Program<'_>, apart: usize) {
     if apart != 0 {
-        files::tell(
-            rt,
-            program,
+        program.tell(
             b": the files in the last lines are not in the report; look at their names, and whether they may be read; docs/PROGRAM.md says what a number means\n",
         );
     }
 }
 
 // The files are taken, and then all is said.
-fn answer(rt: &HostRuntime, program: &[u8], out: Output, files: u32) -> Output
+fn answer(program: Program<'_>, files: usize) -> Output
     requires { files ≤ most_files }
-    ensures { Reported out files result }
+    ensures { Reported (output_of program.entry.output) files result }
 {
-    let month = gather(rt, files);
-    let report = month.report;
-    let fates = month.fates;
-    let page = put_page(rt, out, report, month.apart);
-    let end = put_files(rt, page, fates, files);
-    advise(rt, program, month.apart);
+    let mut all = [Ok(()); MOST_FILES];
+    let fates = &mut all[..files];
+    let report = gather(program.rt, fates);
+    let apart = fates.iter().filter(|fate| fate.is_err()).count();
+    let page = put_page(program.rt, program.begin(), report, apart as u64);
+    let end = put_files(program.rt, page, fates);
+    advise(program, apart);
     end
 }
 
-// What is said on standard error where the output could not be written.
-fn complain(rt: &HostRuntime, program: &[u8], ok: bool) {
-    if !ok {
-        files::tell(
-            rt,
-            program,
-            b": the output could not be written, and what is there is cut off; no file was changed\n",
-        );
-    }
-}
-
-// One run of the program of this name, which is called so.
-pub fn run(rt: &HostRuntime, program: &[u8], call: &[u8], output: i32)
-    ensures { Ran output call.now }
+// One run of the program, which is called so.
+pub fn run(program: Program<'_>, call: &[u8])
+    ensures { Ran program.entry.output call.now }
 {
-    let out = files::begin(output);
-    let words = files::word_count(rt);
+    let words = files::word_count(program.rt);
     if words < 2 {
-        files::usage(rt, out, call);
+        program.usage(call);
         return;
     }
     let files = words - 1;
     if MOST_FILES < files {
-        files::put(rt, out, b"too many files\n");
+        program.begin().put(program.rt, b"too many files\n");
         return;
     }
-    let end = answer(rt, program, out, files as u32);
-    complain(rt, program, end.ok);
+    let end = answer(program, files);
+    program.tell_lost(
+        end,
+        b": the output could not be written, and what is there is cut off; no file was changed\n",
+    );
 }

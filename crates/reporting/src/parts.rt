@@ -1,28 +1,25 @@
 // What is kept of a month's files.
-use month::Report;
+ghost use Rattle.std.specs.Prelude.{◌≡◌};
+ghost use Rattle.reporting.specs.declared.parts.Apart.TheVariants.{Stopped};
+
+use month::Stop;
 
 // The most files of a month.
 pub const MOST_FILES: usize = 400;
 
-// What came of a file: whether it was read, and then what stops it: 7, 10 and its row, or 0: it is taken.
+// Why a file is not in the report.
 #[derive(Clone, Copy)]
-pub struct Fate {
-    pub read: bool,
-    pub refusal: u8,
-    pub row: u32,
+pub enum Apart {
+    // It can't be read.
+    Unread,
+    // It was, and this stops it.
+    Stopped(Stop),
 }
 
-// The report after one file, and what came of it.
-#[derive(Clone, Copy)]
-pub struct Step {
-    pub report: Report,
-    pub fate: Fate,
-}
+impl From<Stop> for Apart {
+    ghost from_gives = { λ s a. a ≡ Stopped s };
 
-// The report after all files, what came of each, and how many were not taken.
-#[derive(Clone, Copy)]
-pub struct Month {
-    pub report: Report,
-    pub fates: [Fate; MOST_FILES],
-    pub apart: u64,
+    fn from(stop: Stop) -> Apart {
+        Apart::Stopped(stop)
+    }
 }

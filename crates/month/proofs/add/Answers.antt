@@ -1,24 +1,19 @@
 -- The stop decides; the rows go on the report that has one sheet more.
-use Rattle.std.proofs.Common.{eqb, sym, refl, ap, ◌∙◌, eq-eqb, ne_eqb}
-use Rattle.laws.specs.Ladder.{held, passed}
-use Rattle.month.specs.declared.parts.Report.{Report}
-use Rattle.month.specs.declared.parts.Stop.{Stop}
-use Rattle.month.specs.Month.{legs_of, legs_on, added_of}
+use Rattle.std.proofs.Common.{sym, refl, ap, ◌∙◌}
+use Rattle.std.specs.Result.{is_ok}
+use Rattle.month.specs.Month.{sheet_on, added_of}
 use Rattle.month.specs.laws.Taken.{taken_sheet}
 use Rattle.month.proofs.add.Goals as goal
 
-pub returns-then-stop-ne0 : goal.returns-then-stop-ne0
+pub returns-then-is_err : goal.returns-then-is_err
 unfolding added_of
-returns-then-stop-ne0 c = let q = c.stop in
-    passed _ _ (ap (λ (z : Stop). eqb z.refusal 0) (sym q.ensures) ∙ ne_eqb _ 0 c.if-stop-ne0.true) refl
+returns-then-is_err c = rw (ap is_ok (sym c.stop.ensures) ∙ c.if-is_err.ensures.negation) refl
 
-pub rows_on-requires : goal.rows_on-requires
-rows_on-requires c = let q = c.stop in
-    taken_sheet _ (ap (λ (z : Stop). z.refusal) (sym q.ensures) ∙ c.if-stop-ne0.false)
+pub add_rows-requires : goal.add_rows-requires
+add_rows-requires c = taken_sheet _ (ap is_ok (sym c.stop.ensures) ∙ c.if-is_err.ensures.negation)
 
 pub returns : goal.returns
-unfolding added_of
-returns c = let q = c.stop in
+unfolding added_of sheet_on
+returns c =
     let a = c.args in
-    held _ _ (ap (λ (z : Stop). eqb z.refusal 0) (sym q.ensures) ∙ eq-eqb _ 0 c.if-stop-ne0.false)
-    (c.rows_on.ensures ∙ ap (λ (r : Report). legs_on r (legs_of a.number a.sheet.now)) c.sheet_on.ensures)
+    rw (ap is_ok (sym c.stop.ensures) ∙ c.if-is_err.ensures.negation) c.add_rows.ensures

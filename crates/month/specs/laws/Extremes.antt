@@ -1,5 +1,5 @@
 -- The extreme of the legs is the earliest of those beyond which no other lies. Assumes nothing.
-use Rattle.std.specs.Prelude.{◌≡◌, ℕ, Bool, true, false, cond, T, List, [], ◌∷◌, ◌++◌, ◌==◌, nat_eq, nat_lt, Float}
+use Rattle.std.specs.Prelude.{◌≡◌, ℕ, Bool, true, false, cond, T, List, [], ◌∷◌, ◌++◌, ◌==◌, nat_eq, nat_lt, Float, Option, None, not}
 use Rattle.std.proofs.Math.Path.{refl}
 use Rattle.std.proofs.Common.{sym, ap, ◌∙◌, subst, inl, inr, append_assoc, append-nil, arith, eq-eqb, eqb-true}
 use Rattle.std.proofs.lemmas.Bool.{false≢true}
@@ -7,7 +7,7 @@ use Rattle.std.specs.Float.{nan, inf, fin}
 use Rattle.std.specs.Float.Ieee.Scale.{finite}
 use Rattle.ledger.specs.Sheet.{Row, function_in, refusal_in, first_in, kind_of, class_of, finite_class}
 use Rattle.month.specs.declared.parts.Extreme.{Extreme}
-use Rattle.month.specs.Month.{Leg, pattern_in, share_of, none, beyond, extreme_on, fold, extreme_of}
+use Rattle.month.specs.Month.{Leg, pattern_in, share_of, beyond, stays, extreme_on, fold, extreme_of}
 use Rattle.month.specs.Files.{Each, Finite, First, Shown, shows}
 use Rattle.month.specs.laws.Lists.{each_append, each_map}
 use Rattle.month.specs.laws.Order.{Number, beyond-beyond, not_then_beyond, beyond-not, not_itself}
@@ -26,26 +26,22 @@ finite_number w = go (function_in w == 0) (nat_lt 0 (refusal_in w)) (first_in w)
     go false false (fin s m e) h = tt
 
 -- ---- one leg more
-module _ (top : Bool) (e : Extreme) (l : Leg) where
+module _ (top : Bool) (e : Option Extreme) (l : Leg) where
   other : nat_eq (class_of l.bytes) finite_class ≡ false → extreme_on top e (share_of l) ≡ e
   unfolding extreme_on share_of
   other c = rw c refl
 
   module _ (c : nat_eq (class_of l.bytes) finite_class ≡ true) where
-    opens : e.found ≡ false → extreme_on top e (share_of l) ≡ shows l
+    opens : e ≡ None → extreme_on top e (share_of l) ≡ shows l
     unfolding extreme_on share_of
     opens h = rw (c, h) refl
 
-    stays : e.found ≡ true → beyond top e.pattern (pattern_in l.bytes) ≡ false → extreme_on top e (share_of l) ≡ e
+    holds : (b : Bool) → stays top e (pattern_in l.bytes) ≡ b → extreme_on top e (share_of l) ≡ cond b e (shows l)
     unfolding extreme_on share_of
-    stays h b = rw (c, h, b) refl
-
-    takes : e.found ≡ true → beyond top e.pattern (pattern_in l.bytes) ≡ true → extreme_on top e (share_of l) ≡ shows l
-    unfolding extreme_on share_of
-    takes h b = rw (c, h, b) refl
+    holds b h = rw (c, h) refl
 
 -- what stays, with a leg after the others that is not strictly beyond it
-keep : (top : Bool) (ls : List Leg) (e : Extreme) (l : Leg) (f : First top ls e) → (Finite l → beyond top (pattern_in f.leg.bytes) (pattern_in l.bytes) ≡ false) → First top (ls ++ (l ∷ [])) e
+keep : (top : Bool) (ls : List Leg) (e : Option Extreme) (l : Leg) (f : First top ls e) → (Finite l → beyond top (pattern_in f.leg.bytes) (pattern_in l.bytes) ≡ false) → First top (ls ++ (l ∷ [])) e
 keep top ls e l f h = record {
   before = f.before;
   leg = f.leg;
@@ -58,7 +54,7 @@ keep top ls e l f h = record {
 }
 
 -- what takes its place is strictly beyond all before it
-replace : (top : Bool) (ls : List Leg) (e : Extreme) (l : Leg) (f : First top ls e) → Finite l → beyond top (pattern_in f.leg.bytes) (pattern_in l.bytes) ≡ true
+replace : (top : Bool) (ls : List Leg) (e : Option Extreme) (l : Leg) (f : First top ls e) → Finite l → beyond top (pattern_in f.leg.bytes) (pattern_in l.bytes) ≡ true
     → Each (λ (m : Leg). Finite m → beyond top (pattern_in m.bytes) (pattern_in l.bytes) ≡ true) ls
 replace top ls e l f c b =
     subst (Each Past) (sym f.split)
@@ -81,7 +77,7 @@ replace top ls e l f c b =
     Past : Leg → Type 0
     Past m = Finite m → beyond top (pattern_in m.bytes) q ≡ true
 
-shown_next : (top : Bool) (ls : List Leg) (e : Extreme) (l : Leg) → Shown top ls e → Shown top (ls ++ (l ∷ [])) (extreme_on top e (share_of l))
+shown_next : (top : Bool) (ls : List Leg) (e : Option Extreme) (l : Leg) → Shown top ls e → Shown top (ls ++ (l ∷ [])) (extreme_on top e (share_of l))
 shown_next top ls e l s = go (class_of l.bytes == finite_class) refl s
   where
     go : (b : Bool) → (class_of l.bytes == finite_class) ≡ b → Shown top ls e → Shown top (ls ++ (l ∷ [])) (extreme_on top e (share_of l))
@@ -97,20 +93,17 @@ shown_next top ls e l s = go (class_of l.bytes == finite_class) refl s
           after = [];
           split = refl;
           finite = eqb-true _ finite_class c;
-          is = opens top e l c (ap (λ (x : Extreme). x.found) n.0);
+          is = opens top e l c n.0;
           past = each_map (λ (m : Leg). Finite m → ⊥) (λ (m : Leg). Finite m → beyond top (pattern_in m.bytes) (pattern_in l.bytes) ≡ true) (λ m h g. absurd (h g)) ls n.1;
           kept = tt;
         })
     go true c (inr f) = by (beyond top (pattern_in f.leg.bytes) (pattern_in l.bytes)) refl
       where
-        found : e.found ≡ true
-        found = ap (λ (x : Extreme). x.found) f.is
-
-        at : (b : Bool) → beyond top (pattern_in f.leg.bytes) (pattern_in l.bytes) ≡ b → beyond top e.pattern (pattern_in l.bytes) ≡ b
-        at b h = ap (λ (x : Extreme). beyond top x.pattern (pattern_in l.bytes)) f.is ∙ h
+        at : (b : Bool) → beyond top (pattern_in f.leg.bytes) (pattern_in l.bytes) ≡ b → stays top e (pattern_in l.bytes) ≡ not b
+        at b h = ap (λ (x : Option Extreme). stays top x (pattern_in l.bytes)) f.is ∙ ap not h
 
         by : (b : Bool) → beyond top (pattern_in f.leg.bytes) (pattern_in l.bytes) ≡ b → Shown top (ls ++ (l ∷ [])) (extreme_on top e (share_of l))
-        by false h = rw (stays top e l c found (at false h)) (inr (keep top ls e l f (λ g. h)))
+        by false h = rw (holds top e l c true (at false h)) (inr (keep top ls e l f (λ g. h)))
         by true h =
             inr
             (record {
@@ -119,25 +112,25 @@ shown_next top ls e l s = go (class_of l.bytes == finite_class) refl s
               after = [];
               split = refl;
               finite = eqb-true _ finite_class c;
-              is = takes top e l c found (at true h);
+              is = holds top e l c false (at true h);
               past = replace top ls e l f (eqb-true _ finite_class c) h;
               kept = tt;
             })
 
-shown_on : (top : Bool) (ls : List Leg) (e : Extreme) (ms : List Leg) → Shown top ls e → Shown top (ls ++ ms) (fold (λ (x : Extreme) (l : Leg). extreme_on top x (share_of l)) e ms)
+shown_on : (top : Bool) (ls : List Leg) (e : Option Extreme) (ms : List Leg) → Shown top ls e → Shown top (ls ++ ms) (fold (λ (x : Option Extreme) (l : Leg). extreme_on top x (share_of l)) e ms)
 unfolding fold
 shown_on top ls e [] s = rw (append-nil ls) s
 shown_on top ls e (m ∷ ms) s =
-    let x : Extreme = extreme_on top e (share_of m) in
-    subst (λ (z : List Leg). Shown top z (fold (λ (x : Extreme) (l : Leg). extreme_on top x (share_of l)) x ms)) (append_assoc ls (m ∷ []) ms)
+    let x : Option Extreme = extreme_on top e (share_of m) in
+    subst (λ (z : List Leg). Shown top z (fold (λ (x : Option Extreme) (l : Leg). extreme_on top x (share_of l)) x ms)) (append_assoc ls (m ∷ []) ms)
     (shown_on top (ls ++ (m ∷ [])) x ms (shown_next top ls e m s))
 
 pub shown : (top : Bool) (ls : List Leg) → Shown top ls (extreme_of top ls)
 unfolding extreme_of
-shown top ls = shown_on top [] none ls (inl (refl, tt))
+shown top ls = shown_on top [] None ls (inl (refl, tt))
 
 -- nothing lies beyond it
-pub nothing_beyond : (top : Bool) (ls : List Leg) (e : Extreme) (f : First top ls e) → Each (λ (l : Leg). Finite l → beyond top (pattern_in f.leg.bytes) (pattern_in l.bytes) ≡ false) ls
+pub nothing_beyond : (top : Bool) (ls : List Leg) (e : Option Extreme) (f : First top ls e) → Each (λ (l : Leg). Finite l → beyond top (pattern_in f.leg.bytes) (pattern_in l.bytes) ≡ false) ls
 nothing_beyond top ls e f =
     subst (Each Kept) (sym f.split)
     (each_append Kept f.before (f.leg ∷ f.after)

@@ -1,6 +1,7 @@
 -- The legs of a file that is taken: as many as its rows, and each row passes the row tests. Assumes nothing.
 use Rattle.std.specs.Prelude.{◌≡◌, ℕ, zero, suc, ◌+◌, ◌*◌, ◌<◌, ◌≤◌, Bool, true, false, cond, not, List, [], ◌∷◌, length, ◌==◌, refl}
-use Rattle.std.proofs.Common.{ap, subst, inl, inr, eq-or-lt_of_le, arith, eqb-true, length-append}
+use Rattle.std.proofs.Common.{ap, subst, inl, inr, eq-or-lt_of_le, arith, length-append}
+use Rattle.std.specs.Result.{is_ok}
 use Rattle.std.proofs.lemmas.Bool.{not-false}
 use Rattle.ledger.specs.Sheet.{sound, most_rows}
 use Rattle.ledger.specs.Calls.{rows_in, row_in}
@@ -23,7 +24,7 @@ none_found test (suc n) i j h a b = go (test i) refl h (λ g l. none_found test 
     go true e g f = absurd (omega arith)
     go false e g f = elim (eq-or-lt_of_le a) [ inl p ↦ subst (λ (k : ℕ). test k ≡ false) p e | inr l ↦ f (omega arith) l ]
 
-pub row-sound : (s : List ℕ) → (stop_of s).refusal ≡ 0 → (i : ℕ) → i < rows_in s → sound (row_in s i) ≡ true
+pub row-sound : (s : List ℕ) → is_ok (stop_of s) ≡ true → (i : ℕ) → i < rows_in s → sound (row_in s i) ≡ true
 unfolding first_rejected sound_row
 row-sound s h i l =
     let sheet = taken_sheet s h in
@@ -45,13 +46,13 @@ each_from P n s i zero f = tt
 each_from P n s i (suc k) f = (f i (omega arith), each_from P n s (suc i) k (λ j h. f j (omega arith)))
 
 -- such as rows that are taken are
-pub each_leg : (P : Leg → Type 0) → ((n : ℕ) (s : List ℕ) → (stop_of s).refusal ≡ 0 → (i : ℕ) → i < rows_in s → P (leg_at n s i)) → (fs : List File) → Each P (all_legs fs)
+pub each_leg : (P : Leg → Type 0) → ((n : ℕ) (s : List ℕ) → is_ok (stop_of s) ≡ true → (i : ℕ) → i < rows_in s → P (leg_at n s i)) → (fs : List File) → Each P (all_legs fs)
 unfolding all_legs legs_in legs_of
 each_leg P f [] = tt
 each_leg P f (g ∷ fs) = each_append P (legs_in g) (all_legs fs) (go (taken g.bytes) refl) (each_leg P f fs)
   where
     go : (b : Bool) → taken g.bytes ≡ b → Each P (cond b (legs_from g.number g.bytes 0 (rows_in g.bytes)) [])
-    go true e = each_from P g.number g.bytes 0 (rows_in g.bytes) (λ j h. f g.number g.bytes (eqb-true _ 0 e) j (omega arith))
+    go true e = each_from P g.number g.bytes 0 (rows_in g.bytes) (λ j h. f g.number g.bytes e j (omega arith))
     go false e = tt
 
 pub legs_few : (fs : List File) → length (all_legs fs) ≤ most_rows * sheets_in fs
@@ -60,5 +61,5 @@ legs_few [] = omega arith
 legs_few (g ∷ fs) = omega (arith, length-append (legs_in g) (all_legs fs), go (taken g.bytes) refl, legs_few fs)
   where
     go : (b : Bool) → taken g.bytes ≡ b → length (cond b (legs_from g.number g.bytes 0 (rows_in g.bytes)) []) ≤ most_rows * cond b 1 0
-    go true e = omega (arith, length_from g.number g.bytes 0 (rows_in g.bytes), sheet_few g.bytes (taken_sheet g.bytes (eqb-true _ 0 e)))
+    go true e = omega (arith, length_from g.number g.bytes 0 (rows_in g.bytes), sheet_few g.bytes (taken_sheet g.bytes e))
     go false e = omega arith

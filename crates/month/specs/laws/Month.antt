@@ -1,10 +1,11 @@
 -- THE REPORT SAYS WHAT THE FILES COME TO (02, [2]). From the report of no sheet on, file after file, at most 400 of them taken: sheets, counts, refusal numbers, total and
 -- extremes are those of the legs of all files taken, in order. Assumes nothing.
-use Rattle.std.specs.Prelude.{◌≡◌, ℕ, ◌+◌, ◌^◌, ◌<◌, ◌≤◌, Bool, true, false, cond, ◌&&◌, List, [], ◌∷◌, length, replicate, ◌==◌, nat_le, refl}
+use Rattle.std.specs.Prelude.{◌≡◌, ℕ, ◌+◌, ◌^◌, ◌<◌, ◌≤◌, Bool, true, false, cond, ◌&&◌, List, [], ◌∷◌, length, replicate, ◌==◌, nat_le, refl, Option}
 use Rattle.std.proofs.Math.Path.{ap}
 use Rattle.std.proofs.Common.{◌∙◌, arith, leb-true}
 use Rattle.answer.specs.Numbers.{last, stored}
-use Rattle.total.specs.Total.{val, limbs_of}
+use Rattle.total.specs.declared.Total.{Total}
+use Rattle.total.specs.Total.{val}
 use Rattle.ledger.specs.Sheet.{refused_class, class_of, refusal_in, function_in, sound, sound_of}
 use Rattle.ledger.specs.laws.Refusals.{class-lt}
 use Rattle.month.specs.declared.parts.Extreme.{Extreme}
@@ -13,7 +14,7 @@ use Rattle.month.specs.Month.{Leg, leg_at, share_of, one_more, refusals_on, extr
 use Rattle.month.specs.Files.{File, most_files, month_on, all_legs, sheets_in, Meaning, Each}
 use Rattle.month.specs.laws.Legs.{row-sound, each_leg, legs_few}
 use Rattle.month.specs.laws.Tally.{Tallied, tallied, counted, counted_at, zero-at, plus-zeros}
-use Rattle.month.specs.laws.Sums.{total_on, limbs_total, val_total}
+use Rattle.month.specs.laws.Sums.{of_limbs, total_on, limbs_total, val_total}
 use Rattle.month.specs.laws.Fields.{over_files, sheets_on}
 
 -- ---- legs that passed the row tests have a class, and a number that a row may store
@@ -70,17 +71,17 @@ module _ (fs : List File) (few : sheets_in fs ≤ most_files) where
   unfolding leg_on share_on share_of sheet_on start_of refusals_on
   refusals-fold = over_files (λ (q : Report). q.refusals) (λ (xs : List ℕ) (l : Leg). cond (is_refused l) (one_more xs (number l)) xs) (λ q l. refl) (λ q. refl) start_of fs
 
-  total_fold : (month_on start_of fs).total ≡ fold total_on (limbs_of 0) (all_legs fs)
+  total_fold : (month_on start_of fs).total ≡ fold total_on (of_limbs 0) (all_legs fs)
   unfolding leg_on share_on share_of sheet_on start_of total_on
   total_fold = over_files (λ (q : Report). q.total) total_on (λ q l. refl) (λ q. refl) start_of fs
 
   largest-fold : (month_on start_of fs).largest ≡ extreme_of true (all_legs fs)
   unfolding leg_on share_on sheet_on start_of extreme_of
-  largest-fold = over_files (λ (q : Report). q.largest) (λ (e : Extreme) (l : Leg). extreme_on true e (share_of l)) (λ q l. refl) (λ q. refl) start_of fs
+  largest-fold = over_files (λ (q : Report). q.largest) (λ (e : Option Extreme) (l : Leg). extreme_on true e (share_of l)) (λ q l. refl) (λ q. refl) start_of fs
 
   smallest_fold : (month_on start_of fs).smallest ≡ extreme_of false (all_legs fs)
   unfolding leg_on share_on sheet_on start_of extreme_of
-  smallest_fold = over_files (λ (q : Report). q.smallest) (λ (e : Extreme) (l : Leg). extreme_on false e (share_of l)) (λ q l. refl) (λ q. refl) start_of fs
+  smallest_fold = over_files (λ (q : Report). q.smallest) (λ (e : Option Extreme) (l : Leg). extreme_on false e (share_of l)) (λ q l. refl) (λ q. refl) start_of fs
 
   classes : Each (λ (l : Leg). always l ≡ true → class l < 5) (all_legs fs)
   unfolding leg_at
@@ -104,8 +105,8 @@ module _ (fs : List File) (few : sheets_in fs ≤ most_files) where
         sheets = sheets_on start_of fs (omega arith) ∙ omega arith;
         counts = λ k h. omega (arith, counts_tally.at k, zero-at 5 k, count_is k (all_legs fs));
         refusals = λ q h. omega (arith, refusals_tally.at q, zero-at 32 q, refused_is q (all_legs fs));
-        total = ap val total ∙ val_total (all_legs fs);
-        limbs = total;
+        total = ap (λ (t : Total). val t.limbs) total ∙ val_total (all_legs fs);
+        limbs = ap (λ (t : Total). t.limbs) total;
         largest = largest-fold;
         smallest = smallest_fold;
         rows = omega (arith, counts_tally.sum, plus-zeros 5, all-count (all_legs fs));

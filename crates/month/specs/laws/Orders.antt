@@ -1,8 +1,7 @@
 -- ANOTHER ORDER (02, [2]). Take the month's files in any other order, under any numbers: the report differs at most in the sheet and row shown with an extreme and in which
 -- of several equal extremes that is. Weights are added up file by file, and what lies beyond no leg lies beyond none in any order. Assumes nothing.
 use Rattle.std.specs.Prelude.{◌≡◌, ℕ, zero, suc, ◌+◌, ◌%◌, ◌≤◌, Bool, true, false, cond, ◌&&◌, List, [], ◌∷◌, ◌++◌, ◌==◌, ◌≢◌, refl}
-use Rattle.std.proofs.Common.{sym, ap, ◌∙◌, subst, inl, inr, arith, ext_get_or}
-use Rattle.std.proofs.lemmas.Bool.{false≢true}
+use Rattle.std.proofs.Common.{Option, sym, ap, ◌∙◌, subst, inl, inr, arith, ext_get_or}
 use Rattle.total.specs.Total.{N, limbs_of}
 use Rattle.ledger.specs.Sheet.{Row, class_of, refusal_in, refused_class, finite_class}
 use Rattle.ledger.specs.Calls.{rows_in}
@@ -115,14 +114,14 @@ at_leg : (P : Leg → Type 0) (ls before : List Leg) (leg : Leg) (after : List L
 at_leg P ls before leg after e x = (each_right P before (leg ∷ after) (subst (Each P) e x)).0
 
 -- an extreme of one order meets no leg beyond it in the other
-met : (top : Bool) (fs gs : List File) → Reordered (contents fs) (contents gs) → (e d : Extreme) (f : First top (all_legs fs) e) (g : First top (all_legs gs) d)
+met : (top : Bool) (fs gs : List File) → Reordered (contents fs) (contents gs) → (e d : Option Extreme) (f : First top (all_legs fs) e) (g : First top (all_legs gs) d)
     → beyond top (pattern_in f.leg.bytes) (pattern_in g.leg.bytes) ≡ false
 met top fs gs r e d f g =
     at_leg (λ (l : Leg). Finite l → beyond top (pattern_in f.leg.bytes) (pattern_in l.bytes) ≡ false) (all_legs gs) g.before g.leg g.after g.split
     (carried (λ (w : Row). class_of w ≡ finite_class → beyond top (pattern_in f.leg.bytes) (pattern_in w) ≡ false) fs gs r (nothing_beyond top (all_legs fs) e f))
     g.finite
 
-never : (top : Bool) (fs gs : List File) → Reordered (contents fs) (contents gs) → (d : Extreme) → Each (λ (l : Leg). Finite l → ⊥) (all_legs fs) → First top (all_legs gs) d → ⊥
+never : (top : Bool) (fs gs : List File) → Reordered (contents fs) (contents gs) → (d : Option Extreme) → Each (λ (l : Leg). Finite l → ⊥) (all_legs fs) → First top (all_legs gs) d → ⊥
 never top fs gs r d x g =
     at_leg (λ (l : Leg). Finite l → ⊥) (all_legs gs) g.before g.leg g.after g.split (carried (λ (w : Row). class_of w ≢ finite_class) fs gs r x) g.finite
 
@@ -130,7 +129,7 @@ pub extremes_alike : (top : Bool) (fs gs : List File) → Reordered (contents fs
 extremes_alike top fs gs r = elim (shown top (all_legs fs)) [
   | inl a ↦
       elim (shown top (all_legs gs)) [
-        | inl b ↦ record { found = ap (λ (x : Extreme). x.found) (a.0 ∙ sym b.0); pattern = λ h. absurd (false≢true (sym (ap (λ (x : Extreme). x.found) a.0) ∙ h)) }
+        | inl b ↦ rw (a.0, b.0) tt
         | inr g ↦ absurd (never top fs gs r (extreme_of top (all_legs gs)) a.1 g)
       ]
   | inr f ↦
@@ -144,10 +143,7 @@ extremes_alike top fs gs r = elim (shown top (all_legs fs)) [
     both f g =
         let e = neither_beyond top (pattern_in f.leg.bytes) (pattern_in g.leg.bytes) (finite_number f.leg.bytes f.finite) (finite_number g.leg.bytes g.finite)
         (met top fs gs r (extreme_of top (all_legs fs)) (extreme_of top (all_legs gs)) f g) (met top gs fs (turned r) (extreme_of top (all_legs gs)) (extreme_of top (all_legs fs)) g f) in
-        record {
-          found = ap (λ (x : Extreme). x.found) f.is ∙ sym (ap (λ (x : Extreme). x.found) g.is);
-          pattern = λ h. rw (ap (λ (x : Extreme). x.pattern) f.is, ap (λ (x : Extreme). x.pattern) g.is) e;
-        }
+        rw (f.is, g.is) e
 
 -- ---- the reports
 module _ (fs gs : List File) (r : Reordered (contents fs) (contents gs)) where
@@ -177,7 +173,7 @@ module _ (fs gs : List File) (r : Reordered (contents fs) (contents gs)) where
         refusals =
             ext_get_or 0 (month_on start_of fs).refusals (month_on start_of gs).refusals (ra.size ∙ sym rb.size)
             (λ q h. a.refusals q (omega (arith, ra.size)) ∙ refused_sum q (all_legs fs) ∙ sums (λ (t : ℕ) (w : Row). cond (refused_class == class_of w && q == refusal_in w) 1 0) ∙ sym (refused_sum q (all_legs gs)) ∙ sym (b.refusals q (omega (arith, ra.size))));
-        total = a.limbs ∙ ap limbs_of total_same ∙ sym b.limbs;
+        total = ap (λ (l : List ℕ). record { limbs = l }) (a.limbs ∙ ap limbs_of total_same ∙ sym b.limbs);
         largest = rw (a.largest, b.largest) (extremes_alike true fs gs r);
         smallest = rw (a.smallest, b.smallest) (extremes_alike false fs gs r);
       }

@@ -1,18 +1,20 @@
 -- A FUNCTION OF THE ROWS ALONE (02, [2]). The last 296 bytes of a file, its counts and its total, play no part: with any others in their place the report is the same.
 -- Assumes nothing.
-use Rattle.std.specs.Prelude.{◌≡◌, ℕ, zero, suc, ◌+◌, ◌-◌, ◌*◌, ◌/◌, ◌<◌, ◌≤◌, Bool, true, false, cond, not, ◌&&◌, ◌||◌, List, ◌∷◌, ◌++◌, length, take, drop, ◌==◌, nat_le, nat_lt}
+use Rattle.std.specs.Prelude.{◌≡◌, ℕ, zero, suc, ◌+◌, ◌-◌, ◌*◌, ◌/◌, ◌<◌, ◌≤◌, Bool, true, false, cond, not, ◌&&◌, ◌||◌, List, ◌∷◌, ◌++◌, length, take, drop, ◌==◌, nat_le, nat_lt, Ok, Err}
 use Rattle.std.proofs.Math.Path.{refl, sym, ap}
 use Rattle.std.proofs.Common.{◌∙◌, subst, arith, ne_eqb, length-append}
 use Rattle.std.proofs.Math.Logic.{inl, inr}
 use Rattle.std.proofs.Math.ListN.{length-drop}
 use Rattle.std.proofs.Math.Seq.{take-append-le}
 use Rattle.std.proofs.lemmas.List.{drop-append-le}
+use Rattle.std.specs.Result.{is_ok}
 use Rattle.laws.specs.laws.Flags.{lt-or-le}
 use Rattle.ledger.specs.Bytes.{number, read}
 use Rattle.ledger.specs.Sheet.{most_rows, row_place, size_for, with_times, without_times, entries, function_in, times_in, sound}
 use Rattle.ledger.specs.Calls.{rows_in, row_in, equal, is_sheet_of, is_sheet, row_refusal, row_rungs, times_of}
 use Rattle.inspection.specs.Rows.{sound_row, first_from, first_rejected}
 use Rattle.month.specs.declared.parts.Report.{Report}
+use Rattle.month.specs.declared.parts.Stop.TheVariants.{NotASheet, Damaged}
 use Rattle.month.specs.Month.{leg_at, legs_from, legs_of, legs_on, sheet_on, stop_of, added_of}
 
 -- ---- files that agree in their first word, how many rows they have, and each row
@@ -49,7 +51,7 @@ module _ (s t : List ℕ) (a : Agree s t) where
 
   stop-same : stop_of s ≡ stop_of t
   unfolding stop_of
-  stop-same = λ j. cond (not (sheet_same j)) (record { refusal = 7; row = 0 }) (cond (nat_lt (rejected-same j) (a.rows j)) (record { refusal = 10; row = rejected-same j }) (record { refusal = 0; row = 0 }))
+  stop-same = λ j. cond (not (sheet_same j)) (Err NotASheet) (cond (nat_lt (rejected-same j) (a.rows j)) (Err (Damaged (rejected-same j))) (Ok tt))
 
   times-same : (i : ℕ) → i < rows_in s → times_of s i ≡ times_of t i
   unfolding times_of
@@ -73,7 +75,7 @@ module _ (s t : List ℕ) (a : Agree s t) where
 
   added_same : (r : Report) (n : ℕ) → added_of r n s ≡ added_of r n t
   unfolding added_of
-  added_same r n = λ j. cond ((stop-same j).refusal == 0) (legs_on (sheet_on r) (legs_same n j)) r
+  added_same r n = λ j. cond (is_ok (stop-same j)) (legs_on (sheet_on r) (legs_same n j)) r
 
 -- ---- and agree where only the totals differ
 

@@ -1,29 +1,31 @@
 -- What a file that is taken is, and what the calls on its rows then tell. Assumes nothing.
-use Rattle.std.specs.Prelude.{◌≡◌, ℕ, ◌<◌, ◌≤◌, Bool, true, false, cond, not, List, nat_lt}
+use Rattle.std.specs.Prelude.{◌≡◌, ℕ, ◌<◌, ◌≤◌, Bool, true, false, cond, not, List, nat_lt, Result, Ok, Err, ⊤}
 use Rattle.std.proofs.Math.Path.{refl}
-use Rattle.std.proofs.Common.{arith, ltb-false}
-use Rattle.std.proofs.lemmas.Bool.{lt-leb}
+use Rattle.std.proofs.Common.{ltb-false}
+use Rattle.std.proofs.lemmas.Bool.{lt-leb, false≢true}
+use Rattle.std.specs.Result.{is_ok}
 use Rattle.ledger.specs.Sheet.{class_of, refusal_in, value_of}
 use Rattle.ledger.specs.Calls.{rows_in, row_in, is_sheet, row_refusal, read_of}
 use Rattle.inspection.specs.Rows.{first_rejected, class_in, value_in, word_of}
 use Rattle.month.specs.declared.parts.Stop.{Stop}
+use Rattle.month.specs.declared.parts.Stop.TheVariants.{NotASheet, Damaged}
 use Rattle.month.specs.Month.{pattern_in, stop_of}
 
 -- ---- a file that is taken
-module _ (s : List ℕ) (h : (stop_of s).refusal ≡ 0) where
+module _ (s : List ℕ) (h : is_ok (stop_of s) ≡ true) where
   both : (is_sheet s ≡ true) × (nat_lt (first_rejected s) (rows_in s) ≡ false)
   unfolding stop_of
   both = go (is_sheet s) (nat_lt (first_rejected s) (rows_in s)) refl refl h
     where
-      stops : Bool → Bool → Stop
-      stops p q = cond (not p) (record { refusal = 7; row = 0 }) (cond q (record { refusal = 10; row = first_rejected s }) (record { refusal = 0; row = 0 }))
+      stops : Bool → Bool → Result ⊤ Stop
+      stops p q = cond (not p) (Err NotASheet) (cond q (Err (Damaged (first_rejected s))) (Ok tt))
 
       go : (p q : Bool) → is_sheet s ≡ p → nat_lt (first_rejected s) (rows_in s) ≡ q
-          → (stops p q).refusal ≡ 0
+          → is_ok (stops p q) ≡ true
           → (is_sheet s ≡ true) × (nat_lt (first_rejected s) (rows_in s) ≡ false)
       go true false x y z = (x, y)
-      go true true x y z = absurd (omega arith)
-      go false q x y z = absurd (omega arith)
+      go true true x y z = absurd (false≢true z)
+      go false q x y z = absurd (false≢true z)
 
   pub taken_sheet : is_sheet s ≡ true
   taken_sheet = both.0

@@ -12,7 +12,7 @@ returns c = let a = c.args in
     let s = a.out.now in
     let r = a.report in
     let x = head_text r.sheets a.apart r.counts in
-    let y = sums_text (val r.total) in
+    let y = sums_text (val r.total.limbs) in
     let z = extremes_text r.largest r.smallest in
     let both = join s 0 167 575 x y (omega arith) c.put_head-a.ensures c.put_sums-b.ensures in
     let three = join s 0 742 155 (x ++ y) z (omega arith) both c.put_extremes-c.ensures in

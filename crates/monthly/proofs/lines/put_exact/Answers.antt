@@ -1,7 +1,6 @@
 -- The word, then the total's sign and size.
-use mathlib.Core.Path.{ap, ◌∙◌}
-use mathlib.Core.List.{List, ◌++◌, append_assoc}
-use Prim.Native.Nat.{ℕ}
+use mathlib.Core.Path.{ap}
+use mathlib.Core.List.{◌++◌, append_assoc}
 use native.Mathlib.Omega.{arith}
 use lib.Dec.{leb}
 use Rattle.laws.specs.Ascii.{ascii}
@@ -18,11 +17,10 @@ pub returns : goal.returns
 unfolding exact_text signed_of
 returns c = let a = c.args in
     let s = a.out.now in
-    let v = val a.total in
+    let v = val a.total.limbs in
     let z = c.size-size.ensures in
-    let o = c.of.ensures in
-    let sign = ap (λ (x : Signed). x.negative) z.0 ∙ ap (λ (l : List ℕ). leb Half (val l)) o in
-    let size = z.1 ∙ ap (λ (l : List ℕ). size_of_total (val l)) o in
+    let sign = ap (λ (x : Signed). x.negative) z.0 in
+    let size = z.1 in
     let p = piece s a.at 6 (ascii "exact ") (omega arith) (omega arith) c.put_bytes-a.ensures in
     let q = follow s a.at 6 546 (ascii "exact ") (signed_hex (leb Half v) (size_of_total v) ++ end) (whole-most (leb Half v) (size_of_total v) 10) (omega arith) p (rw (sign, size) at c.put_whole.ensures) in
     simp append_assoc q

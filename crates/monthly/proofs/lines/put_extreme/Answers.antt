@@ -1,9 +1,5 @@
 -- The words, then none, or the pattern and its place.
-use Prim.Native.Nat.{◌+◌}
-use native.Mathlib.Omega.{arith}
-use mathlib.Core.List.{◌++◌, append_assoc}
-use borrow.Author.Tests.{not-true, not-false}
-use lib.ListN.{length}
+use Rattle.std.proofs.Common.{◌+◌, ◌++◌, append_assoc, length, arith}
 use Rattle.laws.specs.Ascii.{ascii}
 use Rattle.text.specs.Text.{pattern, space}
 use Rattle.text.specs.laws.Digits.{pattern-most}
@@ -11,31 +7,36 @@ use Rattle.monthly.specs.Monthly.{place_text, extreme_text}
 use Rattle.placing.specs.laws.Placing.{piece, follow, join, looser}
 use Rattle.monthly.proofs.lines.put_extreme.Goals as goal
 
-pub returns-then-not-extreme : goal.returns-then-not-extreme
+pub returns-in_default : goal.returns-in_default
 unfolding extreme_text
-returns-then-not-extreme c = let a = c.args in
+returns-in_default c =
+    let a = c.args in
     let s = a.out.now in
     let w = a.words.now in
     let first = piece s a.at (length w) w (omega arith) (omega arith) c.put_bytes-a.ensures in
-    rw (not-true a.extreme.found c.if-not-extreme.true)
+    rw c.in_default.is
     (looser s a.at (length w + 5) (length w + 69) (w ++ ascii "none\n") (omega arith) (follow s a.at (length w) 5 w (ascii "none\n") (omega arith) (omega arith) first c.put_bytes.ensures))
 
 pub put_place-requires : goal.put_place-requires
-put_place-requires c = let a = c.args in
+put_place-requires c =
+    let a = c.args in
     let s = a.out.now in
     let w = a.words.now in
+    let e = c.in-Some.held in
     let first = piece s a.at (length w) w (omega arith) (omega arith) c.put_bytes-a.ensures in
-    let both = follow s a.at (length w) 17 w (pattern a.extreme.pattern ++ space) (pattern-most a.extreme.pattern 32) (omega arith) first c.put_pattern-b.ensures in
+    let both = follow s a.at (length w) 17 w (pattern e.pattern ++ space) (pattern-most e.pattern 32) (omega arith) first c.put_pattern-b.ensures in
     omega (arith, both.short, both.same)
 
 pub returns : goal.returns
 unfolding extreme_text
-returns c = let a = c.args in
+returns c =
+    let a = c.args in
     let s = a.out.now in
     let w = a.words.now in
-    let x = pattern a.extreme.pattern ++ space in
-    let place = place_text a.extreme.sheet a.extreme.row in
+    let e = c.in-Some.held in
+    let x = pattern e.pattern ++ space in
+    let place = place_text e.sheet e.row in
     let first = piece s a.at (length w) w (omega arith) (omega arith) c.put_bytes-a.ensures in
-    let both = follow s a.at (length w) 17 w x (pattern-most a.extreme.pattern 32) (omega arith) first c.put_pattern-b.ensures in
+    let both = follow s a.at (length w) 17 w x (pattern-most e.pattern 32) (omega arith) first c.put_pattern-b.ensures in
     let all = looser s a.at (length w + 17 + 52) (length w + 69) (w ++ x ++ place) (omega arith) (join s a.at (length w + 17) 52 (w ++ x) place (omega arith) both c.put_place.ensures) in
-    rw (not-false a.extreme.found c.if-not-extreme.false) (simp append_assoc (simp append_assoc at all))
+    rw c.in-Some.is (simp append_assoc (simp append_assoc at all))

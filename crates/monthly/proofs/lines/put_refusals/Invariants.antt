@@ -1,11 +1,8 @@
 -- The lines so far stand in the buffer, at most 50 bytes each.
-use Prim.Native.Nat.{◌*◌, ◌-◌, ◌≤◌}
+use Rattle.std.proofs.Common.{◌*◌}
 use Rattle.placing.specs.Placed.{Placed}
 use Rattle.monthly.specs.Monthly.{refusal_lines}
 use Rattle.monthly.proofs.lines.put_refusals.Given as goal
 
 abbrev pub invariant-loop-i : goal.invariant-loop-i
-invariant-loop-i l = (l.i ≤ 32) × Placed l.initial.out l.out l.from l.at (50 * l.i) (refusal_lines l.refusals l.i)
-
-abbrev pub decreases-loop-i : goal.decreases-loop-i
-decreases-loop-i l = 32 - l.i
+invariant-loop-i l = Placed l.initial.out l.out l.from l.at (50 * l.i) (refusal_lines l.fn.refusals l.i)

@@ -1,7 +1,6 @@
 -- The word, then the pattern of the rounded total.
 use mathlib.Core.Path.{ap, ◌∙◌}
-use mathlib.Core.List.{List, ◌++◌, append_assoc}
-use Prim.Native.Nat.{ℕ}
+use mathlib.Core.List.{◌++◌, append_assoc}
 use native.Mathlib.Omega.{arith}
 use lib.Ieee.{binary64, to_bits}
 use Rattle.laws.specs.Ascii.{ascii}
@@ -16,8 +15,8 @@ pub returns : goal.returns
 unfolding total_text
 returns c = let a = c.args in
     let s = a.out.now in
-    let v = to_bits binary64 (round_total (val a.total)) in
-    let e = c.to_pattern-rounded.ensures ∙ ap (to_bits binary64) (c.rounded.ensures ∙ ap (λ (l : List ℕ). round_total (val l)) c.of.ensures) in
+    let v = to_bits binary64 (round_total (val a.total.limbs)) in
+    let e = c.to_pattern-rounded.ensures ∙ ap (to_bits binary64) c.rounded.ensures in
     let p = piece s a.at 6 (ascii "total ") (omega arith) (omega arith) c.put_bytes-a.ensures in
     let q = follow s a.at 6 17 (ascii "total ") (pattern v ++ end) (pattern-most v 10) (omega arith) p (rw e at c.put_pattern.ensures) in
     simp append_assoc q

@@ -1,10 +1,7 @@
--- What is held after the files so far.
-use Prim.Native.Nat.{◌-◌, ◌≤◌}
-use Rattle.reporting.proofs.Files.{Held}
+-- What the files so far came to, each in its place.
+use Rattle.std.proofs.Common.{take}
+use Rattle.reporting.specs.Reporting.{Took}
 use Rattle.reporting.proofs.taking.gather.Given as goal
 
 abbrev pub invariant-loop-i : goal.invariant-loop-i
-invariant-loop-i l = (l.i ≤ l.files) × Held l.i l.report l.fates l.apart
-
-abbrev pub decreases-loop-i : goal.decreases-loop-i
-decreases-loop-i l = l.files - l.i
+invariant-loop-i l = Took l.i l.report (take l.i l.fates)

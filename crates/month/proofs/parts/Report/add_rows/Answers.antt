@@ -1,12 +1,12 @@
 -- What the rows from here on make of what is held is what all rows make of the report.
 use Rattle.std.proofs.Common.{◌≡◌, ℕ, suc, ◌-◌, ◌<◌, ◌≤◌, List, sym, refl, ap, ◌∙◌, add-one, arith}
-use native.Mathlib.Nat.{sub-zero}
+use Rattle.std.proofs.Math.Nat.{sub-zero}
 use Rattle.ledger.specs.laws.Refusals.{sheet_few}
 use Rattle.month.specs.declared.parts.Report.{Report}
 use Rattle.month.specs.declared.parts.Share.{Share}
 use Rattle.month.specs.Month.{leg_at, legs_from, legs_of, share_of, share_on, leg_on, legs_on, fold}
 use Rattle.month.specs.laws.Taken.{row_there}
-use Rattle.month.proofs.rows_on.Goals as goal
+use Rattle.month.proofs.parts.Report.add_rows.Goals as goal
 
 -- one row more, and no row left
 one-row : (n : ℕ) (s : List ℕ) (i rows : ℕ) (r : Report) (h : Share) (more : Report) → i < rows → h ≡ share_of (leg_at n s i) → more ≡ share_on r h
@@ -24,23 +24,21 @@ pub overflow_cast-rows : goal.overflow_cast-rows
 overflow_cast-rows c = omega (arith, c.rows_in-rows.ensures, sheet_few _ c.requires)
 
 pub loop-i-init : goal.loop-i-init
-loop-i-init c = (omega arith, rw (sub-zero c.rows_in-rows.result) refl)
+loop-i-init c = rw (sub-zero c.rows_in-rows.result) refl
 
 pub share_of-requires : goal.share_of-requires
 share_of-requires c = row_there _ _ c.requires (rw (sym c.rows_in-rows.ensures) c.loop-i-test.true)
 
-pub overflow_add-i : goal.overflow_add-i
-overflow_add-i c = record { fits = omega (arith, c.loop-i-test.true, c.rows_in-rows.ensures, sheet_few _ c.requires) }
-
 pub loop-i-preserved : goal.loop-i-preserved
-loop-i-preserved c = let a = c.args in
+loop-i-preserved c =
+    let a = c.args in
     let l = c.loop-i in
-    let t = c.loop-i-test.true in
-    (omega (arith, t), rw (add-one l.i) (one-row a.number a.sheet.now l.i _ l.held c.share_of.result _ t c.share_of.ensures c.share_on-held.ensures ∙ l.invariant.1))
+    rw (add-one l.i) (one-row a.number a.sheet.now l.i _ l.self c.share_of.result _ c.loop-i-test.true c.share_of.ensures c.add_share.ensures ∙ l.invariant)
 
 pub returns : goal.returns
 unfolding legs_of
-returns c = let a = c.args in
+returns c =
+    let a = c.args in
     let l = c.loop-i in
     let r = c.rows_in-rows in
-    no_row a.number a.sheet.now l.i r.result l.held (omega (arith, c.loop-i-test.false)) ∙ l.invariant.1 ∙ ap (λ (n : ℕ). legs_on a.report (legs_from a.number a.sheet.now 0 n)) r.ensures
+    no_row a.number a.sheet.now l.i r.result l.self (omega (arith, c.loop-i-test.false)) ∙ l.invariant ∙ ap (λ (n : ℕ). legs_on a.self.now (legs_from a.number a.sheet.now 0 n)) r.ensures

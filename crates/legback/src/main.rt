@@ -1,6 +1,13 @@
 // From a sheet file that says 3 back to one that says 1 (02, [9]).
 #![tactic(auto)]
 
+use files::Program;
+
 fn main(rt: HostRuntime) {
-    turning::run(&rt, b"legback", b"legback NEW OLD", files::STDOUT, false);
+    let program = Program {
+        rt: &rt,
+        name: b"legback",
+        output: files::STDOUT,
+    };
+    turning::run(program, b"legback NEW OLD", false);
 }

@@ -1,6 +1,13 @@
 // Two sheet files compared, row by row (02, [5]).
 #![tactic(auto)]
 
+use files::Program;
+
 fn main(rt: HostRuntime) {
-    comparing::run(&rt, b"legdiff", b"legdiff OLD NEW", files::STDOUT);
+    let program = Program {
+        rt: &rt,
+        name: b"legdiff",
+        output: files::STDOUT,
+    };
+    comparing::run(program, b"legdiff OLD NEW");
 }

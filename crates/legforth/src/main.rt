@@ -1,6 +1,13 @@
 // From a sheet file that says 1 to one that says 3 (02, [9]).
 #![tactic(auto)]
 
+use files::Program;
+
 fn main(rt: HostRuntime) {
-    turning::run(&rt, b"legforth", b"legforth OLD NEW", files::STDOUT, true);
+    let program = Program {
+        rt: &rt,
+        name: b"legforth",
+        output: files::STDOUT,
+    };
+    turning::run(program, b"legforth OLD NEW", true);
 }

@@ -1,6 +1,13 @@
 // A sheet file as hex text (02, [10]).
 #![tactic(auto)]
 
+use files::Program;
+
 fn main(rt: HostRuntime) {
-    writing::run(&rt, b"legwrite", b"legwrite FILE", files::STDOUT);
+    let program = Program {
+        rt: &rt,
+        name: b"legwrite",
+        output: files::STDOUT,
+    };
+    writing::run(program, b"legwrite FILE");
 }

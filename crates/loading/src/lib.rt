@@ -3,11 +3,11 @@
 
 ghost use Rattle.std.specs.Prelude.{◌≡◌, ◌≤◌, true, false, [], length, take, drop, MatchOption, MatchResult, IfSome};
 ghost use Rattle.files.specs.Calls.{Called, opens, read, reads, number_of, number_if};
-ghost use Rattle.files.specs.Output.{Wrote};
+ghost use Rattle.files.specs.Output.{output_of, Wrote};
 ghost use Rattle.loading.specs.Load.{most, Brought, Load};
 ghost use Rattle.loading.specs.Notes.{cannot_read, refused7, number_line};
 
-use files::{Output, Source};
+use files::{Output, Program, Source};
 use std::fs::File;
 
 // The largest sheet, and one byte more: so much of a file is read.
@@ -73,6 +73,14 @@ pub fn cannot_read(rt: &HostRuntime, out: Output, name: &[u8]) -> Output
     ensures { Wrote out (cannot_read name.now) result }
 {
     out.put_note(rt, b"cannot read ", name)
+}
+
+// The same, and what to do next on standard error.
+pub fn unread(program: Program<'_>, name: &[u8], what: &[u8]) -> Output
+    ensures { Wrote (output_of program.entry.output) (cannot_read name.now) result }
+{
+    program.tell(what);
+    cannot_read(program.rt, program.begin(), name)
 }
 
 // Words, a number and the line's end.

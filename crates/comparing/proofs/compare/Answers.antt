@@ -28,7 +28,7 @@ said old new s t {o = o} {u = u} e w = subst (λ (r : Result ⊤ Stop). Wrote o 
 pub returns-in-Err : goal.returns-in-Err
 returns-in-Err c =
     let a = c.args in
-    said a.first.now a.second.now a.old.now a.new.now (sym c.stopped.ensures ∙ c.in-Err.is) c.send_refusal.ensures
+    said a.first.now a.second.now a.old.now a.new.now (sym c.stopped.ensures ∙ c.in-Err.is) (rw c.begin-out.ensures at c.send_refusal.ensures)
 
 pub overflow_cast-rows : goal.overflow_cast-rows
 overflow_cast-rows c =
@@ -39,4 +39,4 @@ unfolding text_of
 returns c =
     let a = c.args in
     said a.first.now a.second.now a.old.now a.new.now (sym c.stopped.ensures ∙ c.in_default.is)
-    (wrote_both (subst (λ (n : ℕ). Wrote a.out (lines_of a.old.now a.new.now n) c.send_lines-sent.result) c.rows_in-rows.ensures c.send_lines-sent.ensures) c.send_end.ensures)
+    (wrote_both (rw (c.begin-out.ensures, c.rows_in-rows.ensures) at c.send_lines-sent.ensures) c.send_end.ensures)

@@ -1,7 +1,5 @@
 -- Another number of words, or the two files.
 use Rattle.std.proofs.Common.{subst}
-use mir.Syntax.{w32}
-use mir.ValLaws.{to_z-of_z}
 use Rattle.files.specs.Calls.{Counts}
 use Rattle.comparing.specs.Comparing.{called_wrong, called}
 use Rattle.comparing.proofs.run.Goals as goal
@@ -9,13 +7,7 @@ use Rattle.comparing.proofs.run.Goals as goal
 pub returns-then-word_count-ne3 : goal.returns-then-word_count-ne3
 returns-then-word_count-ne3 c =
     let n = c.word_count in
-    called_wrong n.result c.usage.result n.ensures c.if-word_count-ne3.true
-    (rw (c.begin.ensures, to_z-of_z w32 c.args.output c.ranges.output) at c.usage.ensures)
+    called_wrong n.result c.usage.result n.ensures c.if-word_count-ne3.true c.usage.ensures
 
 pub returns : goal.returns
-returns c =
-    let n = c.word_count in
-    let f = c.word-old in
-    let t = c.word-new in
-    let r = c.compare_files-end in
-    called _ _ (subst Counts c.if-word_count-ne3.false n.ensures) f.ensures.called t.ensures.called r.result (rw (to_z-of_z w32 c.args.output c.ranges.output) at r.ensures)
+returns c = called _ _ (subst Counts c.if-word_count-ne3.false c.word_count.ensures) c.word-old.ensures.called c.word-new.ensures.called c.compare_files-end.result c.compare_files-end.ensures

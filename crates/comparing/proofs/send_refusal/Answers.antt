@@ -6,4 +6,4 @@ use Rattle.comparing.proofs.send_refusal.Goals as goal
 
 pub returns : goal.returns
 unfolding refused_text
-returns c = wrote_both (wrote_both (sent_front c.put_stop-n.ensures.put c.put-sent.ensures) (rw c.name_in.ensures at c.put-named.ensures)) c.put.ensures
+returns c = wrote_both (wrote_both (sent_front c.put_stop-n.ensures.put c.put.ensures) (rw c.name_in.ensures at c.put-2.ensures)) c.put-3.ensures

@@ -1,9 +1,5 @@
 -- What was sent so far is the lines of the rows so far.
-use Prim.Native.Nat.{ℕ, ◌+◌}
-use native.Mathlib.Numerals.{add-one}
-use native.Mathlib.Omega.{arith}
-use mathlib.Core.Path.{◌≡◌, subst}
-use mathlib.Core.List.{List}
+use Rattle.std.proofs.Common.{List, ℕ, ◌+◌, add-one, arith, ◌≡◌, subst}
 use Rattle.files.specs.declared.sending.Output.{Output}
 use Rattle.files.specs.Output.{Wrote, none}
 use Rattle.files.specs.laws.Outputs.{wrote_both}
@@ -17,17 +13,12 @@ one_more_lem s i w x = rw (add-one i) (wrote_both w x)
 
 pub loop-i-init : goal.loop-i-init
 unfolding row_lines
-loop-i-init c = (omega arith, none)
+loop-i-init c = none
 
 pub loop-i-preserved : goal.loop-i-preserved
-loop-i-preserved c =
-    let l = c.loop-i in
-    let a = c.args in
-    (omega (arith, c.loop-i-test.true), one_more_lem a.sheet.now l.i l.invariant.1 c.send_row-sent.ensures)
+loop-i-preserved c = one_more_lem c.args.sheet.now c.loop-i.i c.loop-i.invariant c.send_row-sent.ensures
 
 pub returns : goal.returns
 returns c =
-    let l = c.loop-i in
-    let a = c.args in
-    let all : l.i ≡ a.rows = omega (arith, c.loop-i-test.false, l.invariant.0) in
-    subst (λ (n : ℕ). Wrote a.out (row_lines a.sheet.now n) l.sent) all l.invariant.1
+    let all : c.loop-i.i ≡ c.args.rows = omega arith in
+    subst (λ (n : ℕ). Wrote c.args.out (row_lines c.args.sheet.now n) c.loop-i.sent) all c.loop-i.invariant

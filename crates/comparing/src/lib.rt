@@ -13,6 +13,7 @@ use files::{Output, Program, WORD};
 use loading::MOST;
 
 // The line of a row that differs; nothing where it does not.
+// Kept: a closure that fills the buffer would make one function of these, but the check does not cover a bound of Fn over an array of any length.
 fn send_line(rt: &HostRuntime, out: Output, old: &[u8], new: &[u8], row: u32) -> Output
     ensures { Wrote out (line_of old.now new.now row) result }
 {

@@ -67,6 +67,7 @@ pub fn put_report(out: &mut [u8; ROOM], report: Report, apart: u64) -> usize
 }
 
 // The start of the line of a file that is not taken: `file 7 `, or `file 10 row I `. Its name and the line's end follow.
+// Kept: the contract of this public function, put_stop, holds for every number; an enum would ask more of its callers.
 pub fn put_stop(out: &mut [u8; ROOM], refusal: u8, row: u32) -> usize
     ensures put { Put out.old out.new 0 result (stop_text refusal row) }
     ensures upper_bound { result ≤ length out.new }

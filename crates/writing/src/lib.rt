@@ -10,6 +10,7 @@ use hexpage::LINE;
 use loading::MOST;
 
 // The line with the row count.
+// Kept: a closure that fills the buffer would make one function of these, but the check does not cover a bound of Fn over an array of any length.
 fn send_count(rt: &HostRuntime, out: Output, sheet: &[u8]) -> Output
     ensures { Wrote out (count_line sheet.now) result }
 {

@@ -10,6 +10,7 @@ ghost use Rattle.carlson.specs.Series.{larger_of, fifth_of, trusted_of};
 ghost use Rattle.carlson.specs.declared.Outcome.{Outcome};
 
 // What a recipe gives: `value` counts only where `met`, else the refusal is 5.
+// Kept: a flag beside the value, since formulas go on with the value and the rounds of a recipe that is not met (`next_of` of RJ, `from_rest_of` of ellippi).
 #[derive(Clone, Copy)]
 pub struct Outcome {
     pub value: f64,

@@ -10,17 +10,11 @@ fn paired(x: f64, c: &[f64]) -> f64
     let x2 = x * x;
     let x4 = x2 * x2;
     let x8 = x4 * x4;
-    let p0 = c[0] + c[1] * x;
-    let p1 = c[2] + c[3] * x;
-    let p2 = c[4] + c[5] * x;
-    let p3 = c[6] + c[7] * x;
-    let p4 = c[8] + c[9] * x;
-    let p5 = c[10] + c[11] * x;
-    let q0 = p0 + p1 * x2;
-    let q1 = p2 + p3 * x2;
-    let q2 = p4 + p5 * x2;
-    let r0 = q0 + q1 * x4;
-    r0 + q2 * x8
+    let pair = |i: usize| c[i] + c[i + 1] * x;
+    let q0 = pair(0) + pair(2) * x2;
+    let q1 = pair(4) + pair(6) * x2;
+    let q2 = pair(8) + pair(10) * x2;
+    (q0 + q1 * x4) + q2 * x8
 }
 
 fn horner(x: f64, c: &[f64]) -> f64

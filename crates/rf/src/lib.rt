@@ -11,6 +11,7 @@ ghost use Rattle.rf.specs.laws.Moves.{rf_recipe, rf_moves, rf_by_roots};
 ghost use Rattle.rf.specs.declared.Roots.{Roots};
 
 use carlson::{Outcome, Recipe, farther, larger};
+use root::ThreeRoots;
 
 // What a round of RF, RD or RJ takes of its arguments: their roots, and L = √x√y + √y√z + √z√x.
 #[derive(Clone, Copy)]
@@ -25,12 +26,12 @@ pub struct Roots {
 pub fn roots_of(x: f64, y: f64, z: f64) -> Roots
     ensures { result ≡ roots_of x y z }
 {
-    let r = root::three(x, y, z);
+    let ThreeRoots { x, y, z } = root::three(x, y, z);
     Roots {
-        x: r.x,
-        y: r.y,
-        z: r.z,
-        spread: r.x * r.y + r.y * r.z + r.z * r.x,
+        x,
+        y,
+        z,
+        spread: x * y + y * z + z * x,
     }
 }
 

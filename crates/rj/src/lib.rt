@@ -16,6 +16,7 @@ use carlson::{Outcome, Recipe, farther, fifth, larger, trusted};
 use rf::{Rooted, Roots, roots_of, together};
 
 // As RD's, and as open; `inner` says whether every RC so far was met, `inside` counts their rounds.
+// Kept: `inner` is a flag, since the sum goes on with the value of an RC that is not met (`next_of`), and `rj_inner_unmet` (identities) speaks of it.
 #[derive(Clone, Copy)]
 pub struct State {
     pub x: f64,

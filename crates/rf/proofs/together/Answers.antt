@@ -1,5 +1,5 @@
 -- The joint loop of Together, and beside it what each recipe's rounds keep.
-use Rattle.std.proofs.Common.{◌≡◌, refl, ap, ◌∙◌, arith}
+use Rattle.std.proofs.Common.{◌≡◌, refl, ◌∙◌, arith}
 use Rattle.carlson.specs.Loop.{finish_of}
 use Rattle.carlson.specs.laws.Duplication.{where_spent}
 use Rattle.rf.specs.laws.Together.{begun, onward, alongside}
@@ -38,6 +38,6 @@ pub returns : goal.returns
 returns g c =
     let k : 64 ≡ c.loop-k.k = omega arith in
     record {
-      first = where_spent _ _ _ _ _ _ _ c.loop-k-test.false (c.closed.ensures ∙ ap (g.A.Recipe.closed _) k) c.loop-k.invariant.runs.first_run;
-      second = where_spent _ _ _ _ _ _ _ c.loop-k-test.false (c.closed-2.ensures ∙ ap (g.B.Recipe.closed _) k) c.loop-k.invariant.runs.second_run;
+      first = where_spent _ _ _ _ _ _ _ c.loop-k-test.false (rw k at c.closed.ensures) c.loop-k.invariant.runs.first_run;
+      second = where_spent _ _ _ _ _ _ _ c.loop-k-test.false (rw k at c.closed-2.ensures) c.loop-k.invariant.runs.second_run;
     }

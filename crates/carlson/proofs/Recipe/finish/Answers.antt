@@ -1,5 +1,5 @@
 -- The loop of Duplication; where no round is left, 64 are made, or more before it began.
-use Rattle.std.proofs.Common.{◌≡◌, refl, ap, ◌∙◌, max, arith}
+use Rattle.std.proofs.Common.{◌≡◌, refl, max, arith}
 use Rattle.carlson.specs.Loop.{finish_of}
 use Rattle.carlson.specs.laws.Duplication.{at_next, where_met, where_spent}
 use Rattle.carlson.proofs.Recipe.finish.Goals as goal
@@ -17,16 +17,14 @@ round-s-requires g c = (c.loop-j.j, c.loop-j-test.true, c.loop-j.invariant.reach
 
 pub loop-j-preserved : goal.loop-j-preserved
 loop-j-preserved g c =
-    let l = c.loop-j in
-    let reached = g.met.Self.Recipe.stays l.s l.j l.invariant.reached in
+    let reached = g.met.Self.Recipe.stays c.loop-j.s c.loop-j.j c.loop-j.invariant.reached in
     record {
       few = omega arith;
       reached = rw c.round-s.ensures reached;
-      runs = at_next _ _ _ _ _ _ _ _ c.loop-j-test.true c.stops.ensures c.if-stops.false c.round-s.ensures l.invariant.runs;
+      runs = at_next _ _ _ _ _ _ _ _ c.loop-j-test.true c.stops.ensures c.if-stops.false c.round-s.ensures c.loop-j.invariant.runs;
     }
 
 pub returns : goal.returns
 returns g c =
-    let l = c.loop-j in
-    let made : max c.args.k 64 ≡ l.j = omega arith in
-    where_spent _ _ _ _ _ _ _ c.loop-j-test.false (c.closed-2.ensures ∙ ap (g.Self.Recipe.closed l.s) (c.max.ensures ∙ made)) l.invariant.runs
+    let made : max c.args.k 64 ≡ c.loop-j.j = omega arith in
+    where_spent _ _ _ _ _ _ _ c.loop-j-test.false (rw (c.max.ensures, made) at c.closed-2.ensures) c.loop-j.invariant.runs

@@ -87,13 +87,14 @@ pub mod os {
 
 
 # A clause, a ghost field or a ghost member begins so, and ends with the brace that closes it and what follows that.
-GHOST = re.compile(r'\n[ \t]*(?:(?:requires|ensures)\b[^{\n]*\{|ghost (?!use\b)[^{;\n]*\{|impl Model for [^{\n]*\{)')
+GHOST = re.compile(r'\n[ \t]*(?:(?:requires|ensures)\b[^{\n]*\{|(?:pub )?ghost (?!use\b)[^{;\n]*\{|impl Model for [^{\n]*\{)')
 
 
 def without_contracts(text):
     text = re.sub(r'^\s*ghost use [^;]*;\n', '', text, flags=re.M)
     text = re.sub(r'^\s*#!?\[(tactic|cycle)\b[^\n]*\n', '', text, flags=re.M)
     text = re.sub(r'^use std::marker::Model;\n', '', text, flags=re.M)
+    text = re.sub(r'^(\s*)final fn ', r'\1fn ', text, flags=re.M)
     out, i = [], 0
     while True:
         m = GHOST.search(text, i)

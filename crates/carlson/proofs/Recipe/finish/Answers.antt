@@ -13,7 +13,7 @@ returns-then-stops g c =
     where_met _ _ _ _ _ _ _ _ c.stops.ensures c.if-stops.true c.closed.ensures c.loop-j.invariant.runs
 
 pub round-s-requires : goal.round-s-requires
-round-s-requires g c = (c.loop-j.j, c.loop-j-test.true, c.loop-j.invariant.reached)
+round-s-requires g c = (c.loop-j.j, omega arith, c.loop-j.invariant.reached)
 
 pub loop-j-preserved : goal.loop-j-preserved
 loop-j-preserved g c =
@@ -21,10 +21,10 @@ loop-j-preserved g c =
     record {
       few = omega arith;
       reached = rw c.round-s.ensures reached;
-      runs = at_next _ _ _ _ _ _ _ _ c.loop-j-test.true c.stops.ensures c.if-stops.false c.round-s.ensures c.loop-j.invariant.runs;
+      runs = at_next _ _ _ _ _ _ _ _ (omega arith) c.stops.ensures c.if-stops.false c.round-s.ensures c.loop-j.invariant.runs;
     }
 
 pub returns : goal.returns
 returns g c =
     let made : max c.args.k 64 ≡ c.loop-j.j = omega arith in
-    where_spent _ _ _ _ _ _ _ c.loop-j-test.false (rw (c.max.ensures, made) at c.closed-2.ensures) c.loop-j.invariant.runs
+    where_spent _ _ _ _ _ _ _ (omega arith) (rw (c.max.ensures, made) at c.closed-2.ensures) c.loop-j.invariant.runs

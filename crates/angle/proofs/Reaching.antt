@@ -1,7 +1,7 @@
 -- From what the code of sine and cosine tests and calls to their definitions. Assumes nothing.
 use Rattle.std.specs.Prelude.{Ok, Err}
 use mathlib.Core.Path.{◌≡◌, refl, sym, ap, ap₂, ◌∙◌, subst}
-use mathlib.Core.Bool.{Bool, true, false, not, cond, ◌||◌, true≢false}
+use mathlib.Core.Bool.{Bool, true, false, not, cond, ◌||◌, true≢false, beq}
 use Prim.Native.Nat.{ℕ, zero, suc, ◌+◌, ◌-◌, ◌*◌, ◌/◌, ◌^◌, ◌≤◌, ◌<◌, zero-le, min}
 use native.Mathlib.Nat.{mul-add, add-mul, mul_assoc, mul_comm, mul_left_comm, mul-one, add-zero, mul-pos, le_trans, le_of_eq, lt_of_le_of_lt, zero-lt-suc, mul-le-mul_right, le_of_mul-le-mul_right, lt_irrefl, min-eq_left}
 use native.Mathlib.Omega.{arith}
@@ -175,6 +175,13 @@ module _ {x : Float} {negative : Bool} {digits exponent square : ℕ} (view : Vi
   unfolding cosine_of cosine_at
   is_cosine e =
       ap (λ (v : Float). Ok (One v)) (e ∙ ap cosine_by (min-eq_left view_square ∙ view.square_is)) ∙ answered cosine_at cosine_same x negative (digits * 2 ^ exponent) (2 ^ 1074) (pow_pos 1074) view.most view.value
+
+-- ---- the sign of a product
+pub signs : (s t : Bool) → not (beq s t) ≡ unlike s t
+signs true true = refl
+signs true false = refl
+signs false true = refl
+signs false false = refl
 
 -- ---- the one rounding counts in 2^-2340, the sum in 2^-60, and x in 2^-1074
 abbrev sum_unit : ℕ

@@ -31,25 +31,13 @@ const SIXTEEN: u64 = 0x8000_0000_0000_0000;
 
 const PRODUCT_UNIT: u64 = SUM_UNIT - 1074;
 
-fn distance(a: u64, b: u64) -> u64
-    ensures { result ≡ distance_of a b }
-{
-    if a < b { b - a } else { a - b }
-}
-
-fn differ(a: bool, b: bool) -> bool
-    ensures { result ≡ unlike a b }
-{
-    if a { !b } else { b }
-}
-
 // The sum is sin x / x: times all digits of x, so that small x lose none.
 fn sine_from(a: Angle, b: Balance) -> f64
     requires { a.exponent ≤ 1024 }
     ensures { result ≡ round binary64 (unlike a.negative (ltb b.added b.taken)) (a.digits * 2 ^ a.exponent * distance_of b.added b.taken) (2 ^ 1074 * 2 ^ 60) }
 {
-    let v = product(a.digits, distance(b.added, b.taken));
-    let negative = differ(a.negative, b.added < b.taken);
+    let v = product(a.digits, b.added.abs_diff(b.taken));
+    let negative = a.negative != (b.added < b.taken);
     rounded(negative, v, false, a.exponent + PRODUCT_UNIT)
 }
 
@@ -57,22 +45,15 @@ fn sine_from(a: Angle, b: Balance) -> f64
 fn cosine_from(b: Balance) -> f64
     ensures { result ≡ round binary64 (ltb b.added b.taken) (distance_of b.added b.taken) (2 ^ 60) }
 {
-    let gap = distance(b.added, b.taken);
+    let gap = b.added.abs_diff(b.taken);
     rounded(b.added < b.taken, u128::from(gap), false, SUM_UNIT)
 }
 
-// A square, or 4^2 where it is more, which no angle's is.
-fn at_most_16(square: u64) -> u64
-    ensures { result ≡ min square (2 ^ 63) }
-{
-    if square > SIXTEEN { SIXTEEN } else { square }
-}
-
-// Cosine by the square of its angle.
+// Cosine by the square of its angle, or by 4^2 where it is more, which no angle's is.
 pub fn cosine_by(square: u64) -> f64
     ensures { result ≡ cosine_by (min square (2 ^ 63)) }
 {
-    cosine_from(even(at_most_16(square)))
+    cosine_from(even(square.min(SIXTEEN)))
 }
 
 // Within |x| 2^-52 of x - x^3/3! + .. + x^41/41!, never above 1, odd, and x itself for |x| < 2^-30.

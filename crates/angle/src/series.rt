@@ -8,6 +8,7 @@ use bits::upper;
 const ONE: u64 = 0x1000_0000_0000_0000;
 
 // What a sum adds and what it takes away, in units of 2^-60.
+// Kept: arctangent's `Sides` is of this form in other units, and no step of one serves the other.
 #[derive(Clone, Copy)]
 pub struct Balance {
     pub added: u64,

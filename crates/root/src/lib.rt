@@ -121,6 +121,7 @@ struct ThreeDigits {
     z: u64,
 }
 
+// Kept: over an array of numbers the loop over the digits would hold a loop over the numbers, no plainer than these three lines.
 // Those of three numbers. A digit waits for the one before it in the same number, and not for the others': so the processor works on all three at once.
 fn digits_of_three(x: Radicand, y: Radicand, z: Radicand) -> ThreeDigits
     ensures { (result.x ≡ whole_root (x.digits * 2 ^ 51)) × (result.y ≡ whole_root (y.digits * 2 ^ 51)) × (result.z ≡ whole_root (z.digits * 2 ^ 51)) }

@@ -11,4 +11,4 @@ use Rattle.angle.proofs.cosine_from.Goals as goal
 pub returns : goal.returns
 returns c =
     let b = c.args.b in
-    c.rounded.ensures ∙ ap (λ (w : ℕ). rounded_of (ltb b.added b.taken) w false 2280) c.from.ensures ∙ sum_rounded (ltb b.added b.taken) c.distance-gap.result ∙ ap (λ (g : ℕ). round binary64 (ltb b.added b.taken) g (2 ^ 60)) c.distance-gap.ensures
+    c.rounded.ensures ∙ ap (λ (w : ℕ). rounded_of (ltb b.added b.taken) w false 2280) c.from.ensures ∙ sum_rounded (ltb b.added b.taken) c.abs_diff-gap.result ∙ ap (λ (g : ℕ). round binary64 (ltb b.added b.taken) g (2 ^ 60)) c.abs_diff-gap.ensures

@@ -50,6 +50,7 @@ fn put_worked(out: &mut [u8], at: usize, row: &[u8; ROW]) -> usize
 }
 
 // A row's line at the start of the buffer: its length, 0 where there is no such row.
+// Kept: the answer is a length, as the clauses put and upper_bound of put_row and put_count say; no line has none.
 pub fn put_row(out: &mut [u8; LINE], sheet: &[u8], i: u32) -> usize
     ensures put { Put out.old out.new 0 result (row_line sheet.now i) }
     ensures upper_bound { result ≤ length out.new }

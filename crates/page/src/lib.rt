@@ -93,6 +93,7 @@ fn put_note(out: &mut [u8], words: &[u8], n: u64) -> usize
 }
 
 // The whole page at the start of the buffer: its length.
+// Kept: the answer is a length, as the clauses put and upper_bound of put_page, put_bad and put_failed say.
 pub fn put_page(out: &mut [u8; ROOM], sheet: &[u8]) -> usize
     ensures put { Put out.old out.new 0 result (page_of sheet.now) }
     ensures upper_bound { result ≤ length out.new }

@@ -1,5 +1,6 @@
 // Pieces of text, one after the other: each is put at a place of a lent buffer, and the answer is the place after it.
 // Where the buffer has not the room that a piece may need, nothing is put and the place stays.
+// Kept: buffer and place go along as two, since Puts, in the clauses of put_bytes and the others, speaks of both.
 #![tactic(auto)]
 
 ghost use Rattle.std.specs.Prelude.{◌≡◌, [], ◌∷◌, ◌++◌, ◌+◌, ◌≤◌, ◌<◌, length, ltb};
@@ -14,6 +15,7 @@ pub fn lacks(size: usize, at: usize, room: usize) -> bool
 }
 
 // How numbers are written: in a base, with so many digits at most, and with zeros in front, or with none.
+// Kept: `zeros` is a way of writing, and not a flag that says whether another field holds.
 #[derive(Clone, Copy)]
 struct Form {
     base: u64,
@@ -106,6 +108,7 @@ pub fn put_decimal(out: &mut [u8], at: usize, n: u64, after: u8) -> usize
 }
 
 // A number in hex: all 16 digits, or none in front of the number.
+// Kept: `all` is a flag, since the clause gives the digits for either value.
 pub fn put_hex(out: &mut [u8], at: usize, all: bool, n: u64) -> usize
     ensures { Puts out.old out.new at result 16 (digits_of all 16 16 n) }
 {

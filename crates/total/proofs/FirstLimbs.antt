@@ -1,5 +1,5 @@
 -- The number of the first limbs, and what one limb more makes of it. Assumes nothing.
-use Rattle.std.proofs.Common.{◌≡◌, ℕ, zero, suc, ◌+◌, ◌*◌, ◌<◌, ◌≤◌, List, [], ◌∷◌, length, get_or, take, refl, ap, ◌∙◌, le_of_suc-le-suc, not-suc-le-zero, add-zero, add-one, lt_irrefl, mul-zero, arith}
+use Rattle.std.proofs.Common.{◌≡◌, ℕ, zero, suc, ◌+◌, ◌*◌, ◌<◌, ◌≤◌, List, [], ◌∷◌, length, get_or, take, refl, ap, ◌∙◌, le_of_suc-le-suc, not-suc-le-zero, add-zero, add-one, lt_irrefl, mul-zero, arith, set, length-set, get_or-set_same, get_or-set_other, below_more, ◌≢◌}
 use Rattle.total.specs.Total.{val}
 use Rattle.total.specs.Carry.{W}
 use Rattle.total.specs.laws.Limbs.{val_next}
@@ -31,6 +31,24 @@ turned (x ∷ xs) (z ∷ zs) e h =
     let first : z + x + 1 ≡ 0x1_0000_0000_0000_0000 = h 0 (omega arith) in
     let rest = turned xs zs (omega arith) (λ i k. h (suc i) (omega arith)) in
     omega (arith, rest)
+
+-- the first i digits are turned over, the others not yet
+pub record Turned (l out : List ℕ) (i : ℕ) : Type 0 where
+  pub long : length out ≡ length l
+  pub done : (k : ℕ) → k < i → get_or out k 0 + get_or l k 0 + 1 ≡ 0x1_0000_0000_0000_0000
+  pub left : (k : ℕ) → i ≤ k → get_or out k 0 ≡ get_or l k 0
+
+pub turned_none : (l : List ℕ) → Turned l l 0
+turned_none l = record { long = refl; done = λ k (h : k < 0). absurd (omega arith); left = λ k h. refl }
+
+pub turned_more : (l out : List ℕ) (i z : ℕ) → i < length l → z + get_or l i 0 + 1 ≡ 0x1_0000_0000_0000_0000 → Turned l out i → Turned l (set out i z) (i + 1)
+turned_more l out i z b e t = record {
+  long = length-set out i z ∙ t.long;
+  done = below_more _ _
+      (λ k h. let n : k ≢ i = omega arith in rw (get_or-set_other out i k z 0 n) (t.done k h))
+      ((let w : i < length out = omega (arith, t.long) in rw (get_or-set_same out i z 0 w) e));
+  left = λ k h. let n : k ≢ i = omega arith in rw (get_or-set_other out i k z 0 n) (t.left k (omega arith));
+}
 
 -- ---- the highest limb that is not zero
 -- zeros alone stand for zero

@@ -134,6 +134,6 @@ round-signed v = go (leb Half v)
     go false = refl
 
 -- ---- digits turned over, and 1 added
-pub negate : (t v : ℕ) (r : List ℕ) → t + v + 1 ≡ N → r ≡ limbs_of (t + complement false (W 0 * 1)) → r ≡ limbs_of (N - v)
+pub less_from_turned : (t v : ℕ) (r : List ℕ) → t + v + 1 ≡ N → r ≡ limbs_of (t + complement false (W 0 * 1)) → r ≡ limbs_of (N - v)
 unfolding complement W
-negate t v r e h = h ∙ ap limbs_of (omega arith)
+less_from_turned t v r e h = h ∙ ap limbs_of (omega arith)

@@ -12,6 +12,7 @@ pub use rounding::{Signed, highest};
 // 2,176 digits: 2,098 of the largest value, 16 for how often it counts, and room for many of them.
 pub const LIMBS: usize = 34;
 
+// Kept: the clauses speak of the limbs, and not of a model that is the number, since `of` and `limbs` promise the very limbs.
 #[derive(Clone, Copy)]
 pub struct Total {
     pub limbs: [u64; LIMBS],

@@ -20,13 +20,15 @@ pub fn highest(limbs: &[u64]) -> Option<usize>
     limbs.iter().rposition(|limb| *limb != 0)
 }
 
-// N less a number: its digits turned over, and 1 added.
-fn negated(limbs: [u64; LIMBS]) -> [u64; LIMBS]
-    ensures { result ≡ limbs_of (N - val limbs) }
+// A number becomes N less it: its digits turned over, and 1 added.
+fn negate(limbs: &mut [u64])
+    requires { length limbs.old ≡ 34 }
+    ensures { limbs.new ≡ limbs_of (N - val limbs.old) }
 {
-    let mut out = limbs.map(|limb| !limb);
-    ripple(&mut out, 0, 1, false);
-    out
+    for limb in limbs.iter_mut() {
+        *limb = !*limb;
+    }
+    ripple(limbs, 0, 1, false);
 }
 
 // A number without its sign: the two highest limbs, and whether anything is left below them, go to the one rounding.
@@ -46,12 +48,12 @@ pub struct Signed {
     pub limbs: [u64; LIMBS],
 }
 
-pub(crate) fn sized(limbs: [u64; LIMBS]) -> Signed
+pub(crate) fn sized(mut limbs: [u64; LIMBS]) -> Signed
     ensures { (result ≡ signed_of (val limbs)) × (val result.limbs ≡ size_of_total (val limbs)) }
 {
     let negative = limbs[LIMBS - 1] >= TOP_BIT;
-    Signed {
-        negative,
-        limbs: if negative { negated(limbs) } else { limbs },
+    if negative {
+        negate(&mut limbs);
     }
+    Signed { negative, limbs }
 }

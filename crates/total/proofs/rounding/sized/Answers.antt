@@ -11,10 +11,10 @@ pub returns-then-negative : goal.returns-then-negative
 unfolding size_of_total signed_of
 returns-then-negative c = let l = c.args.limbs in
     let g = c.well_formed.0 in
-    let n = c.negated in
+    let n = c.negate in
     let h = minus l g.1.0.1 c.if-negative.true in
     rw (le-leb 0x8000_0000_0000_0000 (get_or l 33 0) c.if-negative.true, le-leb Half (val l) h)
-    ((λ i. record { negative = true; limbs = n.ensures i }), size_minus l n.result g.1.0.1 (λ i. (elem_Fits w64 w64 l g.0 i g.1.1 tt).fits) h n.ensures)
+    ((λ i. record { negative = true; limbs = n.ensures i }), size_minus l n.new.limbs g.1.0.1 (λ i. (elem_Fits w64 w64 l g.0 i g.1.1 tt).fits) h n.ensures)
 
 pub returns-else-negative : goal.returns-else-negative
 unfolding size_of_total signed_of

@@ -34,7 +34,8 @@ no_zero d b c B h = lt_irrefl 0 (subst (λ (n : ℕ). 0 < n) (sym h ∙ ap (λ (
 pub remainder_at : (x y : Float) (s t : Bool) (a b : ℕ) → 0 < b → HasValue x s a (2 ^ 1074) → HasValue y t b (2 ^ 1074) → remainder_of x y ≡ round binary64 s (a % b) (2 ^ 1074)
 unfolding remainder_of
 remainder_at (fin r m e) (fin u zero d) s t a b B hx hy = absurd (no_zero d b (2 ^ 1074) B hy.1)
-remainder_at (fin r m e) (fin u (suc n) d) s t a b B hx hy = (λ i. round binary64 (hx.0 i) (units_are m e a hx.1 i % units_are (suc n) d b hy.1 i) (2 ^ 1074))
+remainder_at (fin r m e) (fin u (suc n) d) s t a b B hx hy =
+    ap (λ (z : Bool). round binary64 z (units_of m e % units_of (suc n) d) (2 ^ 1074)) hx.0 ∙ (λ i. round binary64 s (units_are m e a hx.1 i % units_are (suc n) d b hy.1 i) (2 ^ 1074))
 remainder_at nan y s t a b B hx hy = elim hx [ ]
 remainder_at (inf _) y s t a b B hx hy = elim hx [ ]
 remainder_at (fin r m e) nan s t a b B hx hy = elim hy [ ]

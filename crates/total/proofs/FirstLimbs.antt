@@ -1,19 +1,13 @@
 -- The number of the first limbs, and what one limb more makes of it. Assumes nothing.
-use Rattle.std.proofs.Common.{◌≡◌, ℕ, zero, suc, ◌+◌, ◌*◌, ◌<◌, ◌≤◌, List, [], ◌∷◌, length, get_or, take, refl, ap, ◌∙◌, le_of_suc-le-suc, not-suc-le-zero, add-zero, add-one, lt_irrefl, mul-zero, arith, set, length-set, get_or-set_same, get_or-set_other, below_more, ◌≢◌}
+use Rattle.std.proofs.Common.{◌≡◌, ℕ, zero, suc, ◌+◌, ◌*◌, ◌<◌, ◌≤◌, List, [], ◌∷◌, length, get_or, take, refl, ap, ◌∙◌, le_of_suc-le-suc, not-suc-le-zero, add-one, lt_irrefl, arith, set, length-set, get_or-set_same, get_or-set_other, below_more, ◌≢◌}
 use Rattle.total.specs.Total.{val}
 use Rattle.total.specs.Carry.{W}
-use Rattle.total.specs.laws.Limbs.{val_next}
 
 pub val-none : (l : List ℕ) → val (take 0 l) ≡ 0
 unfolding val
 val-none l = refl
 
 -- ---- limbs that are zero, or not
-pub zero_next : (l : List ℕ) (i : ℕ) → i < length l → get_or l i 0 ≤ 0 → val (take (i + 1) l) ≡ val (take i l)
-zero_next l i h z =
-    let g : get_or l i 0 ≡ 0 = omega arith in
-    val_next l i h ∙ ap (λ (x : ℕ). val (take i l) + W i * x) g ∙ ap (λ (x : ℕ). val (take i l) + x) (mul-zero (W i)) ∙ add-zero (val (take i l))
-
 pub some_at : (l : List ℕ) (i n : ℕ) → i < n → 0 < get_or l i 0 → 0 < val (take n l)
 unfolding val
 some_at [] i n h p = absurd (lt_irrefl 0 p)

@@ -1,4 +1,4 @@
-// A quotient of two limbs by one.
+// A fraction for the sums, and 0 where there is none.
 ghost use Rattle.std.specs.Prelude.{◌≡◌};
 ghost use Rattle.arctangent.specs.Quotient.{quotient_of};
 

@@ -3,7 +3,7 @@
 // x is 2^k f with 3/4 <= f < 3/2, and its logarithm k S(1/3) + S((f - 1) / (f + 1)), where S(t) is
 // 2 (t + t^3/3 + ..) and stands for log((1 + t) / (1 - t)): S(1/3) for log 2, and |t| is at most 1/5.
 // The terms above 0 and those below it are summed apart, on whole numbers of 64 bits from the last
-// term to the first, and then in two limbs: a cut only ever loses, and at every degree n the number is
+// term to the first, and then in 128 digits: a cut only ever loses, and at every degree n the number is
 // the cut sum from n on, short of the exact one by at most 4 units. One rounding of the difference ends it.
 #![tactic(auto)]
 

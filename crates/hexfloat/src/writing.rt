@@ -52,7 +52,7 @@ fn put_power(out: &mut [u8], at: usize, sign: u8, n: u64, after: u8) -> usize
     ensures put { Put out.old out.new at result (112 ∷ (sign ∷ (decimal n ++ (after ∷ [])))) }
     ensures upper_bound { result ≤ at + 7 }
 {
-    let next = put_bytes(out, at, &[112, sign]);
+    let next = put_bytes(out, at, &[b'p', sign]);
     put_decimal(out, next, n, after)
 }
 
@@ -62,21 +62,21 @@ fn put_exponent(out: &mut [u8], at: usize, field: u64, fraction: u64, after: u8)
     ensures upper_bound { result ≤ at + 7 }
 {
     if (field == 0) & (fraction == 0) {
-        return put_power(out, at, 43, 0, after);
+        return put_power(out, at, b'+', 0, after);
     }
     if field == 0 {
-        return put_power(out, at, 45, 1022, after);
+        return put_power(out, at, b'-', 1022, after);
     }
     if field < 1023 {
-        return put_power(out, at, 45, 1023 - field, after);
+        return put_power(out, at, b'-', 1023 - field, after);
     }
-    put_power(out, at, 43, field - 1023, after)
+    put_power(out, at, b'+', field - 1023, after)
 }
 
 fn lead(field: u64) -> u8
     ensures { result ≡ lead_of field }
 {
-    if field == 0 { 48 } else { 49 }
+    if field == 0 { b'0' } else { b'1' }
 }
 
 // Without its sign, and the byte after it.
@@ -86,9 +86,9 @@ fn put_size(out: &mut [u8], at: usize, field: u64, fraction: u64, after: u8) -> 
     ensures upper_bound { result ≤ at + 24 }
 {
     if field == 2047 {
-        return put_bytes(out, at, &[105, 110, 102, after]);
+        return put_bytes(out, at, &[b'i', b'n', b'f', after]);
     }
-    let a = put_bytes(out, at, &[48, 120, lead(field)]);
+    let a = put_bytes(out, at, &[b'0', b'x', lead(field)]);
     let b = put_behind(out, a, fraction);
     put_exponent(out, b, field, fraction, after)
 }

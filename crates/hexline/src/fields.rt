@@ -70,6 +70,7 @@ pub fn stop(line: &[u8]) -> Option<usize>
 }
 
 // The number of field j; 0 where it does not read.
+// Kept: a number, since value could not fail and value_in of specs/Fields says so.
 pub fn value(line: &[u8], j: u64) -> u64
     ensures { result ≡ value_in line.now j }
 {

@@ -59,6 +59,7 @@ pub enum Refusal {
 }
 
 impl Refusal {
+    // Kept: `r.number()` says what it gives, which `u8::from(r)` would not.
     pub fn number(self) -> u8
         ensures { result ≡ number self }
     {

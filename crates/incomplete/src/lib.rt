@@ -8,9 +8,9 @@ ghost use Rattle.angle.specs.Cosine.{cosine_of};
 ghost use Rattle.incomplete.specs.Period.{folded_of};
 ghost use Rattle.incomplete.specs.Scaling.{large_of};
 
-pub const PI: f64 = 3.141592653589793;
+pub const PI: f64 = std::f64::consts::PI;
 
-pub const HALF_PI: f64 = 1.5707963267948966;
+pub const HALF_PI: f64 = std::f64::consts::FRAC_PI_2;
 
 // 2^52: a larger |φ| is not reduced.
 pub const FAR_OUT: f64 = 4503599627370496.0;
@@ -40,11 +40,9 @@ pub fn on_circle(x: f64) -> Point
     ensures { (result.sine ≡ value_of (sine_of x)) × (result.cosine ≡ value_of (cosine_of x)) }
 {
     let both = angle::sine_cosine(x);
-    let s = both.sine;
-    let c = both.cosine;
     Point {
-        sine: answer::value(s),
-        cosine: answer::value(c),
+        sine: answer::value(both.sine),
+        cosine: answer::value(both.cosine),
     }
 }
 

@@ -5,16 +5,15 @@ ghost use Rattle.sheet.specs.Functions.{counted_of, evaluate_of, used_of};
 use answer::{Amplitude, Answer, Characteristic, Counted, Parameter, Refusal, unasked};
 
 // How many of the three arguments the function of this number reads.
+#[tactic(auto, unfolding(crate::specs::Functions::used_of))]
 pub fn used(function: u8) -> u8
     ensures { result ≡ used_of function }
 {
-    if function == 0 {
-        return 0;
+    match function {
+        0 => 0,
+        1..=3 => 1,
+        _ => 2,
     }
-    if function <= 3 {
-        return 1;
-    }
-    2
 }
 
 // The function of this number at its arguments' bit patterns, which stand in the Rust's order, and the rounds of all recipes asked for it.

@@ -70,6 +70,7 @@ def functions(crates):
 
 
 def calls(crate, imports, body, found, methods):
+    body = re.sub(r'::<[^<>()]*>', '', body)
     for m in re.finditer(r'([\w:]*?)(?:::)?(\.?)\b(\w+)\(', body):
         path, dot, name = m[1], m[2], m[3]
         if dot:

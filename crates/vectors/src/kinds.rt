@@ -1,47 +1,38 @@
 // What each kind of list is worked out by. A line holds the arguments' patterns, then the answer's.
-// The kinds by number: 1 magnitude, 2 trunc, 3 floor, 4 round, 5 root, 6 fused, 7 the complete integrals, 8 ellippi, 9 ellipeinc, 10 ellipf,
-// 11 sine, 12 cosine, 13 logarithm, 14 remainder, 15 RF, 16 RC, 17 RD, 18 RJ, 19 rounds. No other is a kind.
 ghost use Rattle.std.specs.Prelude.{◌<◌, ◌≤◌};
 
-use crate::spelling::{float, shaped, word};
+use crate::spelling::{MOST_WORDS, words_of};
 use answer::{Answer, Refusal};
 use carlson::Outcome;
 
-// 0, which is no kind, where the text is no number of one.
-pub(crate) fn kind_of(text: &[u8]) -> u8 {
-    let Some(n) = line::decimal(text) else {
-        return 0;
-    };
-    if n < 256 {
-        return n as u8;
-    }
-    0
-}
-
-// How many words a line of this kind has: a divisor of 3,840, so that a part of the list holds whole lines.
-pub(crate) fn words(kind: u8) -> usize
-    ensures { (0 < result) × (result ≤ 6) }
-{
-    if kind < 6 {
-        return 2;
-    }
-    if kind == 7 {
-        return 6;
-    }
-    if kind == 18 {
-        return 5;
-    }
-    if (kind == 14) | (kind == 16) {
-        return 3;
-    }
-    if (kind == 6) | (kind > 10) {
-        return 4;
-    }
-    3
+#[derive(Clone, Copy)]
+pub(crate) enum Kind {
+    Magnitude,
+    Trunc,
+    Floor,
+    Round,
+    Root,
+    Fused,
+    Complete,
+    Ellippi,
+    Ellipeinc,
+    Ellipf,
+    Sine,
+    Cosine,
+    Logarithm,
+    Remainder,
+    Rf,
+    Rc,
+    Rd,
+    Rj,
+    Rounds,
+    // No kind, and no line of it agrees.
+    Unknown(u8),
 }
 
 // Whether a line's answer comes out again, and how much of its bound the answer uses, in millionths: less than
 // this many, and 0 where it uses none or bits are compared.
+// Kept: no Option, as the part counts for a line that differs too.
 #[derive(Clone, Copy)]
 pub(crate) struct Shown {
     pub same: bool,
@@ -57,7 +48,7 @@ fn millionths(part: f64) -> u64 {
     let t = part * 1000000.0;
     if t > -1.0 {
         if t < 18446744073709551616.0 {
-            return std::num::wrapping_add_u64(std::num::truncating_f64_to_u64(t), 1);
+            return std::num::truncating_f64_to_u64(t).wrapping_add(1);
         }
     }
     2000000
@@ -74,72 +65,33 @@ fn within(good: bool, distance: f64, bound: f64) -> Shown {
     }
 }
 
-// The function of one argument.
-fn single(kind: u8, x: f64) -> f64 {
-    if kind == 1 {
-        return whole::magnitude(x);
-    }
-    if kind == 2 {
-        return floor::trunc(x);
-    }
-    if kind == 3 {
-        return floor::floor(x);
-    }
-    if kind == 4 {
-        return whole::round(x);
-    }
-    root::root(x)
-}
-
 // Bit for bit.
-fn agrees_single(kind: u8, s: &[u8]) -> bool {
-    let r = single(kind, float(s, 0));
-    bits::to_pattern(r) == word(s, 17)
-}
-
-fn agrees_fused(s: &[u8]) -> bool {
-    let r = fused::fused(float(s, 0), float(s, 17), float(s, 34));
-    bits::to_pattern(r) == word(s, 51)
-}
-
-fn agrees_remainder(s: &[u8]) -> bool {
-    let r = remainder::remainder(float(s, 0), float(s, 17));
-    bits::to_pattern(r) == word(s, 34)
+fn equal(x: f64, pattern: u64) -> Shown {
+    exact(bits::to_pattern(x) == pattern)
 }
 
 // K and E: the first word is function and refusal; bit for bit, refusals too.
-fn agrees_complete(s: &[u8]) -> bool {
-    let head = word(s, 0);
-    let function = (head / 256 % 256) as u8;
-    let z = answer::read(sheet::evaluate(function, word(s, 17), 0, 0));
-    let refusal = (z.refusal as u64) == head % 256;
-    let values = (bits::to_pattern(z.first) == word(s, 68))
-        & (bits::to_pattern(z.second) == word(s, 85));
-    refusal & values
+fn complete(w: &[u64; MOST_WORDS]) -> Shown {
+    let function = (w[0] / 256 % 256) as u8;
+    let z = answer::read(sheet::evaluate(function, w[1], 0, 0));
+    exact(
+        u64::from(z.refusal) == w[0] % 256
+            && bits::to_pattern(z.first) == w[4]
+            && bits::to_pattern(z.second) == w[5],
+    )
 }
 
 // The first word is a function of the sheet, the last the rounds of all recipes asked for it.
-fn agrees_rounds(s: &[u8]) -> bool {
-    let function = (word(s, 0) % 256) as u8;
-    let z = sheet::counted(function, word(s, 17), word(s, 34), 0);
-    (z.rounds as u64) == word(s, 51)
+fn rounds(w: &[u64; MOST_WORDS]) -> Shown {
+    let function = (w[0] % 256) as u8;
+    let z = sheet::counted(function, w[1], w[2], 0);
+    exact(z.rounds as u64 == w[3])
 }
 
-// The function of the sheet whose list this is.
-fn function_of(kind: u8) -> u8 {
-    if kind == 8 {
-        return 4;
-    }
-    if kind == 9 {
-        return 5;
-    }
-    6
-}
-
-// Within 2^-36 of the reference, relative; a zero must be a zero.
-fn agrees_near(kind: u8, s: &[u8]) -> Shown {
-    let z = answer::read(sheet::evaluate(function_of(kind), word(s, 0), word(s, 17), 0));
-    let y = float(s, 34);
+// A function of the sheet, within 2^-36 of the reference, relative; a zero must be a zero.
+fn near(function: u8, w: &[u64; MOST_WORDS]) -> Shown {
+    let z = answer::read(sheet::evaluate(function, w[0], w[1], 0));
+    let y = bits::from_pattern(w[2]);
     within(
         z.refusal == 0,
         whole::magnitude(z.first - y),
@@ -147,45 +99,20 @@ fn agrees_near(kind: u8, s: &[u8]) -> Shown {
     )
 }
 
-// Sine, cosine and logarithm.
-fn computed(kind: u8, x: f64) -> Result<Answer, Refusal> {
-    if kind == 11 {
-        return angle::sine(x);
-    }
-    if kind == 12 {
-        return cosine::cosine(x);
-    }
-    logarithm::logarithm(x)
-}
-
 // The reference is the sum of two floats, and its bound stands beside it.
-fn agrees_bounded(kind: u8, s: &[u8]) -> Shown {
-    let z = answer::read(computed(kind, float(s, 0)));
-    let away = z.first - float(s, 17) - float(s, 34);
-    within(z.refusal == 0, whole::magnitude(away), float(s, 51))
-}
-
-// Carlson's recipes.
-fn duplicated(kind: u8, s: &[u8]) -> Outcome {
-    let x = float(s, 0);
-    let y = float(s, 17);
-    if kind == 16 {
-        return rc::rc(x, y);
-    }
-    let z = float(s, 34);
-    if kind == 15 {
-        return rf::rf(x, y, z);
-    }
-    if kind == 17 {
-        return rd::with_rf(x, y, z).1;
-    }
-    rj::rj(x, y, z, float(s, 51))
+fn bounded(answer: Result<Answer, Refusal>, w: &[u64; MOST_WORDS]) -> Shown {
+    let z = answer::read(answer);
+    let away = z.first - bits::from_pattern(w[1]) - bits::from_pattern(w[2]);
+    within(
+        z.refusal == 0,
+        whole::magnitude(away),
+        bits::from_pattern(w[3]),
+    )
 }
 
 // The stop test met, and within 2^-48 of the reference, the line's last word, relative.
-fn agrees_recipe(kind: u8, s: &[u8]) -> Shown {
-    let r = duplicated(kind, s);
-    let y = float(s, 17 * (words(kind) - 1));
+fn recipe(r: Outcome, last: u64) -> Shown {
+    let y = bits::from_pattern(last);
     within(
         r.met,
         whole::magnitude(r.value - y),
@@ -193,42 +120,87 @@ fn agrees_recipe(kind: u8, s: &[u8]) -> Shown {
     )
 }
 
-// By bits, or by the count.
-fn agrees_exactly(kind: u8, s: &[u8]) -> bool {
-    if kind == 0 {
-        return false;
+impl Kind {
+    // The kind of this number.
+    pub(crate) fn numbered(n: u8) -> Kind {
+        match n {
+            1 => Kind::Magnitude,
+            2 => Kind::Trunc,
+            3 => Kind::Floor,
+            4 => Kind::Round,
+            5 => Kind::Root,
+            6 => Kind::Fused,
+            7 => Kind::Complete,
+            8 => Kind::Ellippi,
+            9 => Kind::Ellipeinc,
+            10 => Kind::Ellipf,
+            11 => Kind::Sine,
+            12 => Kind::Cosine,
+            13 => Kind::Logarithm,
+            14 => Kind::Remainder,
+            15 => Kind::Rf,
+            16 => Kind::Rc,
+            17 => Kind::Rd,
+            18 => Kind::Rj,
+            19 => Kind::Rounds,
+            _ => Kind::Unknown(n),
+        }
     }
-    if kind == 6 {
-        return agrees_fused(s);
-    }
-    if kind == 7 {
-        return agrees_complete(s);
-    }
-    if kind == 14 {
-        return agrees_remainder(s);
-    }
-    if kind == 19 {
-        return agrees_rounds(s);
-    }
-    agrees_single(kind, s)
-}
 
-// Whether the line's answer comes out again; a line that does not read differs.
-pub(crate) fn agrees(kind: u8, s: &[u8]) -> Shown {
-    if !shaped(s) {
-        return exact(false);
+    // The kind whose number the text is.
+    pub(crate) fn of(text: &[u8]) -> Kind {
+        let n = line::decimal(text).and_then(|n| u8::try_from(n).ok());
+        Kind::numbered(n.unwrap_or(0))
     }
-    if (kind < 8) | (kind == 14) | (kind == 19) {
-        return exact(agrees_exactly(kind, s));
+
+    // How many words a line of this kind has: a divisor of 3,840, so that a part of the list holds whole lines.
+    pub(crate) fn words(self) -> usize
+        ensures { (0 < result) × (result ≤ 6) }
+    {
+        match self {
+            Kind::Magnitude | Kind::Trunc | Kind::Floor | Kind::Round | Kind::Root => 2,
+            Kind::Remainder | Kind::Rc | Kind::Ellippi | Kind::Ellipeinc | Kind::Ellipf => 3,
+            Kind::Rj => 5,
+            Kind::Complete => 6,
+            Kind::Unknown(0) => 2,
+            _ => 4,
+        }
     }
-    if kind < 11 {
-        return agrees_near(kind, s);
+
+    // Whether the answer in these words comes out again.
+    fn worked_out(self, w: &[u64; MOST_WORDS]) -> Shown {
+        let x = bits::from_pattern(w[0]);
+        let y = bits::from_pattern(w[1]);
+        let z = bits::from_pattern(w[2]);
+        match self {
+            Kind::Magnitude => equal(whole::magnitude(x), w[1]),
+            Kind::Trunc => equal(floor::trunc(x), w[1]),
+            Kind::Floor => equal(floor::floor(x), w[1]),
+            Kind::Round => equal(whole::round(x), w[1]),
+            Kind::Root => equal(root::root(x), w[1]),
+            Kind::Fused => equal(fused::fused(x, y, z), w[3]),
+            Kind::Remainder => equal(remainder::remainder(x, y), w[2]),
+            Kind::Complete => complete(w),
+            Kind::Rounds => rounds(w),
+            Kind::Ellippi => near(4, w),
+            Kind::Ellipeinc => near(5, w),
+            Kind::Ellipf => near(6, w),
+            Kind::Sine => bounded(angle::sine(x), w),
+            Kind::Cosine => bounded(cosine::cosine(x), w),
+            Kind::Logarithm => bounded(logarithm::logarithm(x), w),
+            Kind::Rc => recipe(rc::rc(x, y), w[2]),
+            Kind::Rf => recipe(rf::rf(x, y, z), w[3]),
+            Kind::Rd => recipe(rd::with_rf(x, y, z).1, w[3]),
+            Kind::Rj => recipe(rj::rj(x, y, z, bits::from_pattern(w[3])), w[4]),
+            Kind::Unknown(_) => exact(false),
+        }
     }
-    if kind < 14 {
-        return agrees_bounded(kind, s);
+
+    // Whether the line's answer comes out again; a line that does not read differs.
+    pub(crate) fn agrees(self, line: &[u8]) -> Shown {
+        if line.len() != 17 * self.words() {
+            return exact(false);
+        }
+        words_of(line).map_or(exact(false), |w| self.worked_out(&w))
     }
-    if kind < 19 {
-        return agrees_recipe(kind, s);
-    }
-    exact(false)
 }

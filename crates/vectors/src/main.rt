@@ -6,22 +6,21 @@ mod kinds;
 mod list;
 mod spelling;
 
-use files::{Source, WORD};
+use files::{Output, STDOUT, Source, WORD};
+use kinds::Kind;
 use list::Tally;
 use std::fs::File;
 
 // The file of this name, where it can be opened.
 fn open(rt: &HostRuntime, path: &[u8]) -> Option<File> {
-    let Ok(name) = std::str::from_utf8(path) else {
-        return None;
-    };
+    let name = std::str::from_utf8(path).ok()?;
     File::open(rt, name).ok()
 }
 
 // The list of this name; one that can't be opened has no lines.
-fn tallied(rt: &HostRuntime, path: &[u8], kind: u8) -> Tally {
+fn tallied(rt: &HostRuntime, path: &[u8], kind: Kind) -> Tally {
     let Some(file) = open(rt, path) else {
-        return list::start();
+        return Tally::start();
     };
     let tally = list::replayed(rt, Source::Opened(&file), kind);
     files::close(file);
@@ -33,24 +32,20 @@ fn kept(word: &[u8]) -> &[u8] {
     if word.len() > 4096 { &[] } else { word }
 }
 
+// The list that word i + 1 names, whose kind's number is word i.
 fn replay(rt: &HostRuntime, i: usize) {
     let mut kind = [0u8; WORD];
     let kind = kept(files::word(rt, i, &mut kind));
     let mut path = [0u8; WORD];
-    let path = kept(files::word(rt, std::num::wrapping_add_usize(i, 1), &mut path));
-    let tally = tallied(rt, path, kinds::kind_of(kind));
-    rt.stdout().write_all(path).is_ok();
-    list::print(rt, tally);
+    let path = kept(files::word(rt, i.wrapping_add(1), &mut path));
+    let tally = tallied(rt, path, Kind::of(kind));
+    Output::begin(STDOUT).put(rt, path);
+    tally.print(rt);
 }
 
 fn main(rt: HostRuntime) {
     let n = files::word_count(&rt);
-    let mut i: usize = 1;
-    while i < n {
-        replay(&rt, i);
-        if n - i < 2 {
-            return;
-        }
-        i += 2;
+    for pair in 0..n / 2 {
+        replay(&rt, 2 * pair + 1);
     }
 }

@@ -1,40 +1,26 @@
 // A list's line: words of 16 lower-case hex digits, one space apart, and a line end.
 
-// Whether the line is of this form.
-pub(crate) fn shaped(s: &[u8]) -> bool {
-    let mut at: usize = 0;
-    while at < s.len() {
-        if s.len() - at < 17 {
-            return false;
-        }
-        let end = at + 16;
-        let Some(value) = line::read_digits(&s[at..end], 16) else {
-            return false;
-        };
-        let mark = if s.len() - end == 1 { b'\n' } else { b' ' };
-        if s[end] != mark {
-            return false;
-        }
-        at = end + 1;
-    }
-    true
-}
+// The most words that a line has.
+pub(crate) const MOST_WORDS: usize = 6;
 
-// The word that starts at a place of the line; 0 where there is none.
-pub(crate) fn word(s: &[u8], at: usize) -> u64 {
-    if s.len() < 16 {
-        return 0;
+// The words of the line, and 0 past the last; none where it is not of this form.
+pub(crate) fn words_of(s: &[u8]) -> Option<[u64; MOST_WORDS]> {
+    let mut words = [0; MOST_WORDS];
+    let mut rest = s;
+    for word in &mut words {
+        if rest.is_empty() {
+            break;
+        }
+        if rest.len() < 17 {
+            return None;
+        }
+        let (field, after) = rest.split_at(17);
+        let mark = if after.is_empty() { b'\n' } else { b' ' };
+        if field[16] != mark {
+            return None;
+        }
+        *word = line::read_digits(&field[..16], 16)?;
+        rest = after;
     }
-    if s.len() - 16 < at {
-        return 0;
-    }
-    let Some(value) = line::read_digits(&s[at..at + 16], 16) else {
-        return 0;
-    };
-    value
-}
-
-// The float whose pattern starts there.
-pub(crate) fn float(s: &[u8], at: usize) -> f64 {
-    bits::from_pattern(word(s, at))
+    rest.is_empty().then_some(words)
 }

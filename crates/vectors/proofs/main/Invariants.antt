@@ -1,6 +1,0 @@
--- Two arguments a turn.
-use Rattle.std.proofs.Common.{◌-◌}
-use Rattle.vectors.proofs.main.Given as goal
-
-abbrev pub decreases-loop-i : goal.decreases-loop-i
-decreases-loop-i l = l.n - l.i

@@ -8,16 +8,21 @@ ROOT = os.path.join(os.path.dirname(os.path.abspath(__file__)), '..')
 PROGRAM = 'legsheet'
 # What the whole program writes and saves, from the bytes that it reads: legsheet's own promise, which no code cites.
 PROMISED = {('runner', 'specs.laws.Law'), ('runner', 'specs.laws.Whole')}
-# Laws that proofs cited when they landed, and that today's check finds no need of: they stand (docs/PORT.md).
+# Laws that proofs cited when they landed, and that today's check finds no need of: they stand (docs/PORT.md, docs/DESIGN-PASS.md).
 STANDING = {
     (('rj', 'specs.laws.Counts'), 'rj_inside'), (('text', 'specs.laws.Digits'), 'if_below'),
     *((('text', 'specs.laws.Lines'), name) for name in ('Stands', 'none_yet', 'one_more_lem')),
     *((('text', 'specs.laws.Room'), name) for name in ('beyond', 'has_not', 'too_small')),
     *((('text', 'specs.laws.Writing'), name) for name in ('put_next', 'put_one', 'puts_none', 'room_after')),
     (('placing', 'specs.laws.Placing'), 'three-most'),
+    *((('answer', 'specs.laws.Tests'), name) for name in ('finite_is', 'handed_is', 'infinite_is')),
+    *((('bits', 'specs.laws.Wide'), name) for name in ('difference_whole', 'high_is', 'room', 'sum-whole', 'val-lt')), (('bits', 'specs.Wide'), 'Halves'),
+    *((('ellipf', 'specs.laws.Signum'), name) for name in ('signed', 'signum_is')),
+    *((('legendre', 'specs.laws.Decided'), name) for name in ('by_mean', 'on_piece')),
+    *((('whole', 'specs.laws.Wholes'), name) for name in ('above_zero', 'below-zero', 'some_below')),
 }
 # Functions that legsheet called when they landed: they stay where docs/PROVED.md names them.
-NAMED = {'text::put_hex'}
+NAMED = {'text::put_hex', 'bits::plus', 'bits::minus', 'bits::less', 'answer::infinite'}
 
 
 def stands_on():
@@ -71,6 +76,8 @@ def functions(crates):
 
 def calls(crate, imports, body, found, methods):
     body = re.sub(r'::<[^<>()]*>', '', body)
+    # one that is handed on by its name
+    yield from {(crate, name) for name in re.findall(r'[(,]\s*(\w+)(?=[,)])', body)} & found.keys()
     for m in re.finditer(r'([\w:]*?)(?:::)?(\.?)\b(\w+)\(', body):
         path, dot, name = m[1], m[2], m[3]
         if dot:

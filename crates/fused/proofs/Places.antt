@@ -1,11 +1,11 @@
--- The factors and the addend moved up: what `Lifted` and `Placed` say of them. Assumes nothing.
+-- The factors and the addend moved up: what `Lifted` and the facts of a `Place` say of them. Assumes nothing.
 use mathlib.Core.Path.{◌≡◌, sym, ap, ◌∙◌, subst}
 use mathlib.Core.Logic.{◌⊎◌, inl, inr}
 use Prim.Native.Nat.{ℕ, suc, ◌+◌, ◌-◌, ◌*◌, ◌/◌, ◌%◌, ◌^◌, ◌≤◌, ◌<◌}
 use native.Mathlib.Nat.{le_of_eq, lt_of_lt_of_le, lt_of_le_of_lt, lt_irrefl, eq-zero-or-pos, zero-mul, mul-zero, mul_assoc, mul_left_comm, mul-pos, mul-le-mul, mul-mod_left, mod-eq_of_lt}
 use native.Mathlib.Omega.{arith}
 use lib.Count.{count_leading_zeros, leading_of_zero}
-use lib.Dec.{lit≤, lit<}
+use lib.Dec.{lit≤}
 use lib.Pow.{pow-add, pow_pos}
 use Rattle.laws.specs.laws.Digits.{leading, moved, zeros-ge, zeros-lt, mul-lt-pow}
 use Rattle.fused.specs.Steps.{Lifted}
@@ -70,18 +70,6 @@ module _ (sx ex a ea sy ey b eb : ℕ) (x : Lifted sx ex a ea) (y : Lifted sy ey
   both : 0 < sx → 0 < sy → 2 ^ 124 ≤ a * b
   both u v = mul-le-mul (x.lead u) (y.lead v)
 
-  -- where it is 0, one factor is
-  none : a * b ≡ 0 → sx * sy ≡ 0
-  none h = go (eq-zero-or-pos sx) (eq-zero-or-pos sy)
-    where
-      go : (sx ≡ 0) ⊎ (0 < sx) → (sy ≡ 0) ⊎ (0 < sy) → sx * sy ≡ 0
-      go (inl u) v = ap (λ (z : ℕ). z * sy) u ∙ zero-mul sy
-      go (inr u) (inl v) = ap (λ (z : ℕ). sx * z) v ∙ mul-zero sx
-      go (inr u) (inr v) = absurd (lt_irrefl 0 (lt_of_lt_of_le (lt_of_lt_of_le (lit< tt) (both u v)) (le_of_eq h)))
-
-  pub product_zero : (k : ℕ) → a * b ≡ 0 → 0 * 2 ^ 0 ≡ sx * sy * 2 ^ k
-  product_zero k h = sym (ap (λ (z : ℕ). z * 2 ^ k) (none h) ∙ zero-mul (2 ^ k))
-
   pub product_same : a * b * 2 ^ (ea + eb + 66) ≡ sx * sy * 2 ^ (ex + ey + 192)
   product_same =
       ap (λ (z : ℕ). a * b * z) (pow-add 2 (ea + eb) 66 ∙ ap (λ (z : ℕ). z * 2 ^ 66) (pow-add 2 ea eb))
@@ -123,9 +111,6 @@ module _ (sx ex a ea sy ey b eb : ℕ) (x : Lifted sx ex a ea) (y : Lifted sy ey
       pairs u v P = simp (mul_assoc, mul_left_comm)
 
 -- ---- the addend: its digits c, and 64 zeros
-pub addend_zero : (n k : ℕ) → n ≡ 0 → 0 * 2 ^ 0 ≡ n * 2 ^ k
-addend_zero n k h = sym (ap (λ (z : ℕ). z * 2 ^ k) h ∙ zero-mul (2 ^ k))
-
 module _ (n e d k c : ℕ) (w : Lifted n e d k) (q : c ≡ d) where
   kept : c * 2 ^ 64 % 2 ^ 128 ≡ d * 2 ^ 64
   kept = ap (λ (x : ℕ). x * 2 ^ 64 % 2 ^ 128) q ∙ mod-eq_of_lt (let z = w.most in let y : d * 2 ^ 64 < 2 ^ 128 = omega arith in y)
@@ -143,12 +128,3 @@ module _ (n e d k c : ℕ) (w : Lifted n e d k) (q : c ≡ d) where
     where
       turn : (d A K B : ℕ) → d * A * (K * B) ≡ d * K * (A * B)
       turn d A K B = simp (mul_assoc, mul_left_comm)
-
-  pub addend_most : c * 2 ^ 64 % 2 ^ 128 < 2 ^ 127
-  addend_most = let z = w.most in let y = kept in omega arith
-
-  pub addend_zeros : c * 2 ^ 64 % 2 ^ 128 % 2 ^ 20 ≡ 0
-  addend_zeros = let y = kept in omega arith
-
-  pub addend_lead : (n ≡ 0 → ⊥) → 2 ^ 124 ≤ c * 2 ^ 64 % 2 ^ 128
-  addend_lead h = let z = w.lead (let p : 0 < n = omega (arith, h) in p) in let y = kept in omega arith

@@ -2,7 +2,7 @@
 use mathlib.Core.Path.{◌≡◌, refl, sym, ap, ◌∙◌, subst}
 use mathlib.Core.Bool.{Bool, true, false, ◌&&◌, cond, true≢false, beq}
 use Prim.Native.Nat.{ℕ, suc, ◌+◌, ◌-◌, ◌*◌, ◌/◌, ◌%◌, ◌^◌, ◌≤◌, ◌<◌}
-use native.Mathlib.Nat.{le_trans, le_of_eq, le_of_lt, lt_of_le_of_lt, lt_of_lt_of_le, lt_irrefl, add-zero, mul-div_cancel, mul-mod_left, mul-div-mul_right, mul-le-mul_right, mod-lt, mul_assoc, div-add-mod', div-le_self}
+use native.Mathlib.Nat.{le_trans, le_of_eq, le_of_lt, lt_of_le_of_lt, lt_of_lt_of_le, lt_irrefl, add-zero, mul-div_cancel, mul-mod_left, mul-div-mul_right, mul-le-mul_right, mod-lt, mul_assoc, div-add-mod'}
 use native.Mathlib.Omega.{arith}
 use lib.Arith.{mod-mul}
 use lib.Dec.{ltb}
@@ -66,9 +66,6 @@ module _ (A E B e t : ℕ) (m : Bool) (pa : Placed A E) (pb : Placed B e) (l : e
     where
       apart : (t A : ℕ) → t < 2 ^ 106 → 2 ^ 124 ≤ A → t + 1 + 2 ^ 53 ≤ A
       apart t A a b = omega arith
-
-  pub t-most : t < 2 ^ 127
-  t-most = lt_of_le_of_lt (le_trans (le_of_eq c.whole) (div-le_self B (2 ^ (E - e)))) pb.most
 
   -- ---- one sign
   pub like : (s u : Bool) → beq s u ≡ true → rounded_of s (A + t) m E ≡ sum binary64 s (A * 2 ^ E) u (B * 2 ^ e) (2 ^ 2340)

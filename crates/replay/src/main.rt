@@ -5,7 +5,6 @@ ghost use Rattle.std.specs.Prelude.{◌≡◌, ◌≤◌, length};
 
 use calls::{call, is_kept, keep};
 use files::Source;
-use script::word;
 
 mod calls;
 mod script;
@@ -18,7 +17,7 @@ pub struct State {
     pub kept: usize,
     pub lines: u64,
     pub wrong: u64,
-    pub first: u64,
+    pub first: Option<u64>,
 }
 
 // `L` says how long the buffer is from now on.
@@ -26,19 +25,15 @@ fn length_of(line: &[u8], length: usize) -> usize
     requires { length ≤ 49664 }
     ensures { result ≤ 49664 }
 {
-    if line.len() > 0 {
-        if line[0] == b'L' {
-            return (word(line, 2) as usize) % 49664;
-        }
+    if line.first() == Some(&b'L') {
+        let digits = line.get(2..10).unwrap_or(&[]);
+        return (line::read_digits(digits, 16).unwrap_or(0) % 49664) as usize;
     }
     length
 }
 
 fn is_letter(line: &[u8], c: u8) -> bool {
-    if line.len() == 1 {
-        return line[0] == c;
-    }
-    false
+    line == [c].as_slice()
 }
 
 fn kept_of(line: &[u8], kept: usize, size: usize) -> usize {
@@ -59,11 +54,7 @@ fn answer(line: &[u8], size: usize, kept: usize, buffer: &mut [u8]) -> bool
         }
         return is_kept(buffer, size);
     }
-    call(line, &mut buffer[0..size])
-}
-
-fn first_of(first: u64, now: u64) -> u64 {
-    if first == 0 { now } else { first }
+    call(line, &mut buffer[0..size]) == Some(true)
 }
 
 // A line is whole.
@@ -74,24 +65,23 @@ fn finish(st: State, line: &[u8], buffer: &mut [u8]) -> State
     let length = length_of(line, st.length);
     let right = answer(line, length, st.kept, buffer);
     let kept = kept_of(line, st.kept, length);
-    let lines = std::num::wrapping_add_u64(st.lines, 1);
+    let lines = st.lines.wrapping_add(1);
     if right {
         return State {
             held: 0,
-            length: length,
-            kept: kept,
-            lines: lines,
-            wrong: st.wrong,
-            first: st.first,
+            length,
+            kept,
+            lines,
+            ..st
         };
     }
     State {
         held: 0,
-        length: length,
-        kept: kept,
-        lines: lines,
-        wrong: std::num::wrapping_add_u64(st.wrong, 1),
-        first: first_of(st.first, lines),
+        length,
+        kept,
+        lines,
+        wrong: st.wrong.wrapping_add(1),
+        first: st.first.or(Some(lines)),
     }
 }
 
@@ -108,11 +98,7 @@ fn feed(st: State, b: u8, line: &mut [u8], buffer: &mut [u8]) -> State
         line[held] = b;
         return State {
             held: held + 1,
-            length: st.length,
-            kept: st.kept,
-            lines: st.lines,
-            wrong: st.wrong,
-            first: st.first,
+            ..st
         };
     }
     st
@@ -123,10 +109,8 @@ fn feed_all(st: State, part: &[u8], line: &mut [u8], buffer: &mut [u8]) -> State
     ensures { (result.length ≤ 49664) × (result.held ≤ 256) }
 {
     let mut s = st;
-    let mut i: usize = 0;
-    while i < part.len() {
-        s = feed(s, part[i], line, buffer);
-        i += 1;
+    for b in part {
+        s = feed(s, *b, line, buffer);
     }
     s
 }
@@ -134,7 +118,9 @@ fn feed_all(st: State, part: &[u8], line: &mut [u8], buffer: &mut [u8]) -> State
 fn say(rt: &HostRuntime, st: State) {
     println!(rt;
         "{} lines, {} wrong, the first {}",
-        st.lines, st.wrong, st.first
+        st.lines,
+        st.wrong,
+        st.first.unwrap_or(0)
     )
     .is_ok();
 }
@@ -172,7 +158,7 @@ fn run(rt: &HostRuntime, line: &mut [u8], buffer: &mut [u8]) -> State
         kept: 0,
         lines: 0,
         wrong: 0,
-        first: 0,
+        first: None,
     };
     let mut turns = u64::MAX;
     while turns > 0 {

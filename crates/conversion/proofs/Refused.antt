@@ -6,29 +6,9 @@ use Prim.Native.Nat.{ℕ, ◌≤◌, ◌<◌}
 use native.Mathlib.Omega.{arith}
 use borrow.Author.Tests.{eq-eqb, ne_eqb, lt-ltb, le-ltb}
 use lib.Dec.{ltb, eqb}
-use lib.Ieee.{Float, nan, inf, fin}
-use Rattle.ledger.specs.Sheet.{function_in, refusal_in, first_in, kind_of, class_of}
-use Rattle.ledger.specs.Calls.{rows_in, row_in, is_sheet_of, row_refusal, times_of, count_of}
+use Rattle.ledger.specs.Calls.{rows_in, is_sheet_of, times_of, count_of}
 use Rattle.inspection.specs.Rows.{sound_row, class_in}
-use Rattle.conversion.specs.Conversion.{says_before, first_of, rejected, uncounted, oftener, tested, stopped, stop_of}
-
--- ---- a class is a small number
-kind_small : (x : Float) → kind_of x < 256
-unfolding kind_of
-kind_small nan = omega arith
-kind_small (inf true) = omega arith
-kind_small (inf false) = omega arith
-kind_small (fin s m e) = omega arith
-
-pub class_small : (s : List ℕ) (i : ℕ) → class_in s i < 256
-unfolding class_in class_of
-class_small s i = go (eqb (row_refusal s i) 0) (eqb (function_in (row_in s i)) 0) (ltb 0 (refusal_in (row_in s i))) (kind_of (first_in (row_in s i))) (kind_small (first_in (row_in s i)))
-  where
-    go : (p q r : Bool) (k : ℕ) → k < 256 → cond p (cond q 0 (cond r 4 k)) 5 < 256
-    go true true r k h = omega arith
-    go true false true k h = omega arith
-    go true false false k h = h
-    go false q r k h = omega arith
+use Rattle.conversion.specs.Conversion.{says_before, first_of, rejected, uncounted, oftener, stopped, stop_of}
 
 -- ---- the tests
 module _ (s : List ℕ) (i : ℕ) where
@@ -48,14 +28,6 @@ module _ (s : List ℕ) (i : ℕ) where
   unfolding oftener
   times-not h = rw (ne_eqb _ _ h)
 
-  pub one-test : (often : Bool) → often ≡ true → oftener s i ≡ tested often s i
-  unfolding tested
-  one-test often h = rw h
-
-  pub other_test : (often : Bool) → often ≡ false → rejected s i ≡ tested often s i
-  unfolding tested
-  other_test often h = rw h
-
 -- ---- what the sheet says
 pub said : (s : List ℕ) (forth b : Bool) (k : ℕ) → k ≡ says_before forth → b ≡ is_sheet_of k s → is_sheet_of (says_before forth) s ≡ b
 said s forth b k e h = ap (λ (n : ℕ). is_sheet_of n s) (sym e) ∙ sym h
@@ -67,27 +39,27 @@ module _ (forth : Bool) (s : List ℕ) where
   stop_7 h = rw h
 
   -- of a sheet of r rows, of which d is the first that is rejected
-  module _ (h : is_sheet_of (says_before forth) s ≡ true) (r d : ℕ) (q : r ≡ rows_in s) (e : d ≡ first_of (tested false s) r) where
+  module _ (h : is_sheet_of (says_before forth) s ≡ true) (r d : ℕ) (q : r ≡ rows_in s) (e : d ≡ first_of (rejected s) r) where
     pub stop_10 : d < r → stopped 10 d ≡ stop_of forth s
-    unfolding stop_of tested
+    unfolding stop_of
     stop_10 g = rw (h, ← q, ← e, lt-ltb d r g)
 
     module _ (g : r ≤ d) where
       pub stop-counts : uncounted s ≡ true → stopped 10 r ≡ stop_of forth s
-      unfolding stop_of tested
+      unfolding stop_of
       stop-counts u = rw (h, ← q, ← e, le-ltb d r g, u)
 
       module _ (u : uncounted s ≡ false) where
         pub stop-none : forth ≡ true → stopped 0 0 ≡ stop_of forth s
-        unfolding stop_of tested
+        unfolding stop_of
         stop-none f = rw (h, ← q, ← e, le-ltb d r g, u, f)
 
         -- o the first that was driven other than once
-        module _ (f : forth ≡ false) (o : ℕ) (p : o ≡ first_of (tested true s) r) where
+        module _ (f : forth ≡ false) (o : ℕ) (p : o ≡ first_of (oftener s) r) where
           pub stop_17 : o < r → stopped 17 o ≡ stop_of forth s
-          unfolding stop_of tested
+          unfolding stop_of
           stop_17 l = rw (h, ← q, ← e, le-ltb d r g, u, f, ← p, lt-ltb o r l)
 
           pub stop_0 : r ≤ o → stopped 0 0 ≡ stop_of forth s
-          unfolding stop_of tested
+          unfolding stop_of
           stop_0 l = rw (h, ← q, ← e, le-ltb d r g, u, f, ← p, le-ltb o r l)

@@ -1,12 +1,15 @@
 -- From a sheet that says 1 to one that says 3, and back (02, [9]). `forth` says which way: true from 1 to 3, false back. Definitions only.
-use Rattle.std.specs.Prelude.{ℕ, zero, suc, ◌+◌, Bool, true, false, cond, not, ◌&&◌, ◌||◌, List, ◌++◌, ltb, eqb, take, drop}
+use Rattle.std.specs.Prelude.{ℕ, zero, suc, ◌+◌, Bool, true, false, cond, not, ◌&&◌, ◌||◌, List, ◌++◌, ltb, eqb, take, drop, Result, Ok, Err}
 use Rattle.laws.specs.Ladder.{when◌gives◌else◌}
 use Rattle.laws.specs.Splice.{splice}
 use Rattle.ledger.specs.Bytes.{bytes}
 use Rattle.ledger.specs.Sheet.{Row, without_times, with_times, blank_class, finite_class, plus∞Class, minus∞Class, refused_class, function_in}
 use Rattle.ledger.specs.Calls.{rows_in, is_sheet_of, times_of, count_of}
 use Rattle.inspection.specs.Rows.{sound_row, first_from, class_in}
+use Rattle.conversion.specs.declared.Way.{Way}
+use Rattle.conversion.specs.declared.Way.TheVariants.{Forth, Back}
 use Rattle.conversion.specs.declared.Stop.{Stop}
+use Rattle.answer.specs.Numbers.{number}
 
 -- what the sheet must say, and what it says afterwards
 abbrev pub says_before : Bool → ℕ
@@ -14,6 +17,11 @@ says_before forth = cond forth without_times with_times
 
 abbrev pub says_after : Bool → ℕ
 says_after forth = says_before (not forth)
+
+-- which way
+unfoldable pub is_forth : Way → Bool
+is_forth Forth = true
+is_forth Back = false
 
 -- ---- a row, one relation for both ways
 
@@ -59,17 +67,16 @@ uncounted s =
 unfoldable pub oftener : List ℕ → ℕ → Bool
 oftener s i = not (eqb (class_in s i) blank_class) && not (eqb (times_of s i) 1)
 
--- the two tests of rows
-unfoldable pub tested : Bool → List ℕ → ℕ → Bool
-tested true = oftener
-tested false = rejected
-
 -- a refusal number, and the row that it is about
-abbrev pub stopped : ℕ → ℕ → Stop
+pub record Stopped : Type 0 where
+  pub refusal : ℕ
+  pub row : ℕ
+
+abbrev pub stopped : ℕ → ℕ → Stopped
 stopped q i = record { refusal = q; row = i }
 
 -- what refuses the call, 0 for nothing, and the row: 7, for the wrong direction too; 10 for the first such row; 10 for the counts, which the number of rows names; back, 17 for the first such row
-unfoldable pub stop_of : Bool → List ℕ → Stop
+unfoldable pub stop_of : Bool → List ℕ → Stopped
 stop_of forth s =
     let r = rows_in s in
     let damaged = first_of (rejected s) r in
@@ -79,6 +86,11 @@ stop_of forth s =
     when uncounted s gives stopped 10 r else
     when not forth && ltb often r gives stopped 17 often else
     stopped 0 0
+
+-- the same as a result: no refusal and no row where the call is taken
+unfoldable pub stopped_of : Result (Unit {0}) Stop → Stopped
+stopped_of (Ok a) = stopped 0 0
+stopped_of (Err s) = stopped (number s.refusal) s.row
 
 -- ---- the call
 

@@ -24,8 +24,7 @@ use Rattle.demands.specs.Edits.{AllWorked}
 use Rattle.demands.specs.laws.Rows.{Good, Rows, none, more}
 use Rattle.demands.specs.laws.Encoded.{takes_edits, rows_in_lem, row_in_lem, counts_are, whole}
 use Rattle.demands.specs.laws.Tally.{counts_all}
-use Rattle.conversion.specs.declared.Stop.{Stop}
-use Rattle.conversion.specs.Conversion.{once, turned, turned_rows, turned_sheet, rejected, uncounted, stopped, stop_of, converted_of}
+use Rattle.conversion.specs.Conversion.{Stopped, once, turned, turned_rows, turned_sheet, rejected, uncounted, stopped, stop_of, converted_of}
 use Rattle.conversion.specs.laws.Rows.{held, once_small, length-turned, class-turned, sound-turned, value-turned, times-turned, turned_back}
 use Rattle.conversion.specs.laws.Accepted.{Accepted, enough, converted_is}
 use Rattle.converted.specs.laws.Sheets.{count_is, sound_is, class_is, oftener_is, once_is, taken_back, there_and_back}
@@ -139,7 +138,7 @@ module _ (us : List Row) (r : Rows us) (few : length us ≤ most_rows) (h : All 
   }
 
   not_refused : (stop_of false (encode us)).refusal ≡ 0
-  not_refused = ap (λ (q : Stop). q.refusal) (enough false (encode us) back_takes)
+  not_refused = ap (λ (q : Stopped). q.refusal) (enough false (encode us) back_takes)
 
   rest : List ℕ
   rest = 32 ∷ 48 * length us ∷ length us ∷ 2 ∷ (32 + 48 * length us) ∷ 296 ∷ 1 ∷ []

@@ -2,10 +2,11 @@
 // Every call answers for any bytes.
 #![tactic(auto)]
 
-ghost use Rattle.std.specs.Prelude.{◌≡◌, ltb, nat_abs, ⊤};
+ghost use Rattle.std.specs.Prelude.{◌≡◌, true, ltb, nat_abs, ⊤};
 ghost use Rattle.std.specs.Float.Ieee.Scale.{finite};
 ghost use Rattle.laws.specs.Arithmetic.{float};
 ghost use Rattle.total.specs.Total.{val};
+ghost use Rattle.ledger.specs.Calls.{is_sheet};
 ghost use Rattle.difference.specs.Steps.{steps_of};
 ghost use Rattle.difference.specs.Difference.{rejected_of, stop_of, agree, distance_of, change_of, rows_of, changes, growth_of, below_zero};
 
@@ -63,23 +64,23 @@ pub fn steps(p: u64, q: u64) -> u64
 
 // Refuses a sheet whose rows refusal 10's row tests reject: the first of them.
 fn rows_taken(sheet: &[u8], side: Side) -> Result<(), Stop>
+    requires { is_sheet sheet.now ≡ true }
     ensures { result ≡ rejected_of sheet.now side }
 {
-    let row = inspection::first_rejected(sheet);
-    if (row as usize) < ledger::rows_in(sheet) {
-        return Err(Stop::Damaged(side, row));
+    match inspection::first_rejected(sheet) {
+        Some(row) => Err(Stop::Damaged(side, row)),
+        None => Ok(()),
     }
-    Ok(())
 }
 
 // What refuses the comparison of an old sheet and a new one.
 pub fn stopped(old: &[u8], new: &[u8]) -> Result<(), Stop>
     ensures { result ≡ stop_of old.now new.now }
 {
-    if ledger::total_refusal(old) != 0 {
+    if ledger::total_refusal(old).is_err() {
         return Err(Stop::NotASheet(Side::Old));
     }
-    if ledger::total_refusal(new) != 0 {
+    if ledger::total_refusal(new).is_err() {
         return Err(Stop::NotASheet(Side::New));
     }
     if ledger::rows_in(old) != ledger::rows_in(new) {
@@ -126,8 +127,8 @@ pub fn changed(old: &[u8], new: &[u8], row: u32) -> Change
     if agreeing(old, new, row) {
         return Change::Same;
     }
-    let from = inspection::row_class(old, row);
-    let to = inspection::row_class(new, row);
+    let from = ledger::class_number(inspection::row_class(old, row));
+    let to = ledger::class_number(inspection::row_class(new, row));
     if from != to {
         return Change::Moved { from, to };
     }
@@ -141,7 +142,7 @@ pub fn changed(old: &[u8], new: &[u8], row: u32) -> Change
 pub fn changed_rows(old: &[u8], new: &[u8]) -> u32
     ensures { result ≡ changes old.now new.now (rows_of old.now) }
 {
-    if ledger::total_refusal(old) != 0 {
+    if ledger::total_refusal(old).is_err() {
         return 0;
     }
     let rows = ledger::rows_in(old) as u32;

@@ -14,7 +14,7 @@ fn fix_sheet(program: Program<'_>, input: Source<'_>, name: &[u8], bytes: &[u8])
     requires { Load name.now bytes.now true }
     ensures { Fixed (number_of input.entry) program.entry.output name.now }
 {
-    if ledger::total_refusal(bytes) == 0 {
+    if ledger::total_refusal(bytes).is_ok() {
         runner::run(program, input, Some(name), bytes);
         return;
     }

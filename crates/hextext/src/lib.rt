@@ -44,7 +44,7 @@ fn read_line(sheet: &mut [u8], text: &[u8], i: u32, at: usize) -> Halt
     if h.refusal != 0 {
         return h;
     }
-    let refusal = sheet::edit(sheet, i, entry(line));
+    let refusal = ledger::number(sheet::edit(sheet, i, entry(line)));
     halted(refusal, i + 2, 0)
 }
 
@@ -76,7 +76,7 @@ pub fn read_text(sheet: &mut [u8], text: &[u8]) -> Halt
     let Some(n) = rows(text) else {
         return halted(18, 1, 1);
     };
-    let refusal = ledger::make_blank(sheet, n as u32);
+    let refusal = ledger::number(ledger::make_blank(sheet, n as u32));
     if refusal != 0 {
         return halted(refusal, 0, 0);
     }

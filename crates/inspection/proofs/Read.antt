@@ -10,6 +10,7 @@ use lib.ListN.{length, take, drop, drop_of_length-le}
 use Rattle.laws.specs.Arithmetic.{float, +0}
 use Rattle.ledger.specs.Bytes.{number, pattern_at}
 use Rattle.ledger.specs.Sheet.{no_class, function_in, refusal_in, first_in, class_of, value_of, sound_of, sound}
+use Rattle.ledger.specs.Class.{class_at}
 use Rattle.ledger.specs.Calls.{row_in, row_refusal, read_of, share_of}
 use Rattle.ledger.specs.laws.Fields.{pattern_there, pattern-none}
 use Rattle.ledger.specs.laws.Refusals.{read_48}
@@ -30,9 +31,9 @@ module _ (s : List ℕ) (i : ℕ) where
       go false e = q
 
   -- ---- its share
-  pub class-read : (share_of (read_of s i)).class ≡ class_in s i
-  unfolding share_of class_in
-  class-read = either (λ (b : Bool) (w : List ℕ). (share_of w).class ≡ cond b (class_of (row_in s i)) no_class) (λ h. rw (eq-eqb _ _ h)) refl
+  pub class-read : (share_of (read_of s i)).class ≡ class_at (class_in s i)
+  unfolding share_of class_in class_at
+  class-read = either (λ (b : Bool) (w : List ℕ). (share_of w).class ≡ class_at (cond b (class_of (row_in s i)) no_class)) (λ h. rw (eq-eqb _ _ h)) refl
 
   pub value_read : (share_of (read_of s i)).value ≡ value_in s i
   unfolding share_of value_in

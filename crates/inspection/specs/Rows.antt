@@ -1,5 +1,5 @@
 -- What the calls on a sheet's rows answer (01, "The leg sheet"). Definitions only.
-use Rattle.std.specs.Prelude.{ℕ, zero, suc, ◌*◌, Bool, false, not, List, eqb, take, drop, Float}
+use Rattle.std.specs.Prelude.{ℕ, zero, suc, ◌*◌, Bool, false, not, ◌&&◌, Option, Some, None, List, ltb, eqb, take, drop, Float}
 use Rattle.laws.specs.Arithmetic.{+0}
 use Rattle.laws.specs.Ladder.{when◌gives◌else◌}
 use Rattle.ledger.specs.Bytes.{number}
@@ -20,6 +20,10 @@ first_from test i (suc n) =
 -- the first row of a sheet that the row tests reject; the row count where they reject none; 0 for other bytes
 unfoldable pub first_rejected : List ℕ → ℕ
 first_rejected s = when is_sheet s gives first_from (λ (i : ℕ). not (sound_row s i)) 0 (rows_in s) else 0
+
+-- the same row, where there is one
+unfoldable pub rejected_row : List ℕ → Option ℕ
+rejected_row s = when is_sheet s && ltb (first_rejected s) (rows_in s) gives Some (first_rejected s) else None
 
 -- the row's class; none where it can't be read
 unfoldable pub class_in : List ℕ → ℕ → ℕ

@@ -1,2 +1,4 @@
 -- Laws of a search.
 pub mod First
+pub mod Class
+pub mod Rejected

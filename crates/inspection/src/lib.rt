@@ -2,7 +2,10 @@
 #![tactic(auto)]
 
 ghost use Rattle.std.specs.Prelude.{◌≡◌};
-ghost use Rattle.inspection.specs.Rows.{sound_row, first_rejected, class_in, word_of, value_in};
+ghost use Rattle.ledger.specs.Class.{class_at};
+ghost use Rattle.inspection.specs.Rows.{sound_row, rejected_row, class_in, word_of, value_in};
+
+use ledger::Class;
 
 // Whether the row passes refusal 10's row tests; false where it can't be read.
 pub fn row_sound(sheet: &[u8], row: u32) -> bool
@@ -16,27 +19,20 @@ pub fn row_sound(sheet: &[u8], row: u32) -> bool
     ledger::can_stand(bytes[0], bytes[1], first)
 }
 
-// The first row that refusal 10's row tests reject; the row count where they reject none, and 0 where the bytes are no sheet.
-pub fn first_rejected(sheet: &[u8]) -> u32
-    ensures { result ≡ first_rejected sheet.now }
+// The first row of a sheet that refusal 10's row tests reject.
+pub fn first_rejected(sheet: &[u8]) -> Option<u32>
+    ensures { result ≡ rejected_row sheet.now }
 {
-    if ledger::total_refusal(sheet) != 0 {
-        return 0;
+    if ledger::total_refusal(sheet).is_err() {
+        return None;
     }
     let rows = ledger::rows_in(sheet) as u32;
-    let mut i: u32 = 0;
-    while i < rows {
-        if !row_sound(sheet, i) {
-            return i;
-        }
-        i += 1;
-    }
-    rows
+    (0..rows).find(|row| !row_sound(sheet, *row))
 }
 
-// The row's class, as ledger's `count` numbers them; 5 where a NaN first answer leaves it none, or the row can't be read.
-pub fn row_class(sheet: &[u8], row: u32) -> usize
-    ensures { result ≡ class_in sheet.now row }
+// The row's class; none where its first answer is a NaN, or the row can't be read.
+pub fn row_class(sheet: &[u8], row: u32) -> Option<Class>
+    ensures { result ≡ class_at (class_in sheet.now row) }
 {
     ledger::share_of(ledger::read_row(sheet, row)).class
 }

@@ -8,33 +8,36 @@ use borrow.Author.Tests.{eq-eqb, ne_eqb, lt-ltb, le-ltb}
 use lib.Dec.{eqb}
 use lib.ListN.{length, get_or, replicate, get_or-eq_default}
 use Rattle.laws.specs.Arithmetic.{+0}
+use Rattle.std.specs.Prelude.{Result, is_err}
+use Rattle.answer.specs.declared.Refusal.{Refusal}
+use Rattle.answer.specs.Answer.{refusal_of}
 use lib.Ieee.{round, of_bits}
 use Rattle.total.specs.Total.{Half, round_total}
 use Rattle.ledger.specs.Sheet.{Row, row_place, most_rows, size_for, encode, blank_row}
 use Rattle.ledger.specs.Calls.{Sized, rows_in, row_in, counts_in, total_in, is_sheet, row_refusal, total_refusal, place_refusal, blank_refusal, edited, place_of, blank_of, total_of, exact_of, count_of}
-use Rattle.ledger.specs.laws.Refusals.{length-counts, row_room, read_48, readable, sheet_length, a_sheet}
+use Rattle.ledger.specs.laws.Refusals.{length-counts, row_room, readable, sheet_length, sheet_taken, refused, taken}
 
 -- ---- a row placed
-module _ (s : List ℕ) (i : ℕ) (w : Row) (q : ℕ) (e : q ≡ place_refusal s i w) where
-  pub place_refused : (q ≡ 0 → ⊥) → s ≡ place_of s i w
+module _ (s : List ℕ) (i : ℕ) (w : Row) (r : Result (Unit {0}) Refusal) (e : refusal_of r ≡ place_refusal s i w) where
+  pub place_refused : is_err r ≡ true → s ≡ place_of s i w
   unfolding place_of
-  place_refused h = rw (ne_eqb (place_refusal s i w) 0 (λ z. h (e ∙ z)))
+  place_refused h = rw (ne_eqb (place_refusal s i w) 0 (refused r _ e h))
 
-  pub place-stored : q ≡ 0 → (t : List ℕ) → t ≡ edited s i w → t ≡ place_of s i w
+  pub place-stored : is_err r ≡ false → (t : List ℕ) → t ≡ edited s i w → t ≡ place_of s i w
   unfolding place_of
-  place-stored h t d = rw (eq-eqb (place_refusal s i w) 0 (sym e ∙ h)) d
+  place-stored h t d = rw (eq-eqb (place_refusal s i w) 0 (taken r _ e h)) d
 
 -- ---- a row read: what the calls on a row's own bytes need, and what decides between the two things that they hand back
-module _ (s : List ℕ) (i q : ℕ) (e : q ≡ row_refusal s i) where
-  pub unreadable : (q ≡ 0 → ⊥) → eqb (row_refusal s i) 0 ≡ false
-  unreadable h = ne_eqb (row_refusal s i) 0 (λ z. h (e ∙ z))
+module _ (s : List ℕ) (i : ℕ) (r : Result (Unit {0}) Refusal) (e : refusal_of r ≡ row_refusal s i) where
+  pub unreadable : is_err r ≡ true → eqb (row_refusal s i) 0 ≡ false
+  unreadable h = ne_eqb (row_refusal s i) 0 (refused r _ e h)
 
-  module _ (h : q ≡ 0) where
+  module _ (h : is_err r ≡ false) where
     can : (is_sheet s ≡ true) × (i < rows_in s)
-    can = readable s i (sym e ∙ h)
+    can = readable s i (taken r _ e h)
 
     pub row_read : eqb (row_refusal s i) 0 ≡ true
-    row_read = eq-eqb (row_refusal s i) 0 (sym e ∙ h)
+    row_read = eq-eqb (row_refusal s i) 0 (taken r _ e h)
 
     pub read_sheet : is_sheet s ≡ true
     read_sheet = can.0
@@ -42,29 +45,26 @@ module _ (s : List ℕ) (i q : ℕ) (e : q ≡ row_refusal s i) where
     pub read-room : row_place i + 48 ≤ length s
     read-room = row_room s (sheet_length s can.0) i can.1
 
-    pub read_length : (w : Row) → w ≡ row_in s i → length w ≡ 48
-    read_length w d = ap length d ∙ read_48 s i (sym e ∙ h)
-
 -- ---- the total and the counts
-module _ (s : List ℕ) (q : ℕ) (e : q ≡ total_refusal s) where
-  module _ (h : q ≡ 0 → ⊥) where
-    refused : eqb (total_refusal s) 0 ≡ false
-    refused = ne_eqb (total_refusal s) 0 (λ z. h (e ∙ z))
+module _ (s : List ℕ) (r : Result (Unit {0}) Refusal) (e : refusal_of r ≡ total_refusal s) where
+  module _ (h : is_err r ≡ true) where
+    unfit : eqb (total_refusal s) 0 ≡ false
+    unfit = ne_eqb (total_refusal s) 0 (refused r _ e h)
 
     pub exact_refused : 0 ≡ exact_of s
     unfolding exact_of
-    exact_refused = rw refused
+    exact_refused = rw unfit
 
     pub count_refused : (k : ℕ) → 0 ≡ count_of s k
     unfolding count_of
-    count_refused k = rw refused
+    count_refused k = rw unfit
 
-  module _ (h : q ≡ 0) where
+  module _ (h : is_err r ≡ false) where
     given : eqb (total_refusal s) 0 ≡ true
-    given = eq-eqb (total_refusal s) 0 (sym e ∙ h)
+    given = eq-eqb (total_refusal s) 0 (taken r _ e h)
 
     pub total_room : Sized s
-    total_room = sheet_length s (a_sheet s q e h)
+    total_room = sheet_length s (sheet_taken s r e h)
 
     pub exact-given : total_in s ≡ exact_of s
     unfolding exact_of

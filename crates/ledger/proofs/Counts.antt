@@ -1,12 +1,14 @@
 -- The five counts, the 34 limbs and the contents, read and compared. Assumes nothing.
 use mathlib.Core.Path.{◌≡◌, refl, ap, ◌∙◌, sym}
-use mathlib.Core.Bool.{Bool, true, false, ◌&&◌}
+use mathlib.Core.Bool.{Bool, true, false, ◌&&◌, false≢true}
+use mathlib.Core.Logic.{◌↔◌}
 use mathlib.Core.List.{List, [], ◌∷◌, ◌++◌, append_assoc, append-nil}
 use Prim.Native.Nat.{ℕ, zero, suc, ◌+◌, ◌-◌, ◌*◌, ◌/◌, ◌%◌, ◌^◌, ◌≤◌, ◌<◌}
 use native.Mathlib.Nat.{pow-suc, zero-add, suc-add, mul_comm, mul_assoc, div-lt_iff_lt-mul, add-mul-mod_self_left, add-mul-div_left, mod-add-div, mod-lt}
 use native.Mathlib.Numerals.{add-one}
 use native.Mathlib.Omega.{arith}
-use lib.Dec.{eqb, lit<}
+use borrow.Author.Tests.{eq-eqb, eqb-true}
+use lib.Dec.{lit<}
 use lib.Pow.{pow-add}
 use lib.ListN.{length, take, drop, get_or, set, drop_of_length-le}
 use lib.Seq.{drop-drop, drop-cons, take-add, length-take-le}
@@ -18,23 +20,6 @@ use Rattle.ledger.specs.Calls.{equal, plus}
 use Rattle.ledger.specs.laws.Fields.{number_append}
 
 -- ---- five numbers
-pub read_five : (s : List ℕ) (a : ℕ) → read 4 5 (drop a s)
-    ≡ number (take 4 (drop a s)) ∷ number (take 4 (drop (a + 4) s)) ∷ number (take 4 (drop (a + 8) s)) ∷ number (take 4 (drop (a + 12) s)) ∷ number (take 4 (drop (a + 16) s)) ∷ []
-unfolding read
-read_five s a =
-    let p : (m n : ℕ) → drop n (drop (a + m) s) ≡ drop (a + (m + n)) s = λ m n. drop-drop n (a + m) s ∙ ap (λ (k : ℕ). drop k s) (let e : a + m + n ≡ a + (m + n) = omega arith in e) in
-    rw (drop-drop 4 a s, p 4 4, p 8 4, p 12 4)
-
-pub plus_five : (l : List ℕ) → length l ≡ 5 → get_or l 0 0 + get_or l 1 0 + get_or l 2 0 + get_or l 3 0 + get_or l 4 0 ≡ plus l
-unfolding plus
-plus_five [] h = absurd (omega arith)
-plus_five (a ∷ []) h = absurd (omega arith)
-plus_five (a ∷ b ∷ []) h = absurd (omega arith)
-plus_five (a ∷ b ∷ c ∷ []) h = absurd (omega arith)
-plus_five (a ∷ b ∷ c ∷ d ∷ []) h = absurd (omega arith)
-plus_five (a ∷ b ∷ c ∷ d ∷ e ∷ []) h = omega arith
-plus_five (a ∷ b ∷ c ∷ d ∷ e ∷ f ∷ l) h = absurd (omega arith)
-
 five : (l q : List ℕ) → length l ≡ 5 → get_or l 0 0 ∷ get_or l 1 0 ∷ get_or l 2 0 ∷ get_or l 3 0 ∷ get_or l 4 0 ∷ q ≡ l ++ q
 five [] q h = absurd (omega arith)
 five (a ∷ []) q h = absurd (omega arith)
@@ -86,33 +71,45 @@ limb_next s i h =
     let e : 8 * (i + 1) ≡ 8 * i + 8 = omega arith in
     rw (e, take-add (8 * i) 8 s, number_append, length-take-le (8 * i) s (omega arith), W-bytes i)
 
--- ---- the contents
-equal_next : (s xs : List ℕ) (i n : ℕ) → i < length xs
-    → equal (read 4 (suc n) (drop (4 * i) s)) (drop i xs) ≡ (eqb (number (take 4 (drop (4 * i) s))) (get_or xs i 0) && equal (read 4 n (drop (4 * (i + 1)) s)) (drop (i + 1) xs))
+-- ---- the contents, word by word
+word_on : (s : List ℕ) (k : ℕ) → number (take 4 (drop (4 * k) (drop 4 s))) ≡ number (take 4 (drop (4 * suc k) s))
+word_on s k = ap (λ (t : List ℕ). number (take 4 t)) (drop-drop (4 * k) 4 s ∙ ap (λ (n : ℕ). drop n s) (let e : 4 + 4 * k ≡ 4 * suc k = omega arith in e))
+
+equal_words : (n : ℕ) (s xs : List ℕ) → length xs ≡ n → ((k : ℕ) → k < n → number (take 4 (drop (4 * k) s)) ≡ get_or xs k 0) → equal (read 4 n s) xs ≡ true
 unfolding equal read
-equal_next s xs i n h =
-    let a : drop 4 (drop (4 * i) s) ≡ drop (4 * (i + 1)) s = drop-drop 4 (4 * i) s ∙ ap (λ (k : ℕ). drop k s) (let e : 4 * i + 4 ≡ 4 * (i + 1) = omega arith in e) in
-    rw (drop-cons xs i 0 h, a, add-one i)
+equal_words zero s [] e f = refl
+equal_words zero s (x ∷ xs) e f = absurd (omega arith)
+equal_words (suc n) s [] e f = absurd (omega arith)
+equal_words (suc n) s (x ∷ xs) e f =
+    rw (eq-eqb _ _ (f 0 (omega arith)), equal_words n (drop 4 s) xs (omega arith) (λ k h. word_on s k ∙ f (suc k) (omega (arith, h)))) refl
 
--- what is left to compare after i of eight
-abbrev pub Left : List ℕ → List ℕ → ℕ → Bool
-Left s xs i = equal (read 4 (8 - i) (drop (4 * i) s)) (drop i xs)
+both : (a b : Bool) → (a && b) ≡ true → (a ≡ true) × (b ≡ true)
+both true b h = (refl, h)
+both false b h = absurd (false≢true h)
 
-left_next : (s xs : List ℕ) (i : ℕ) → length xs ≡ 8 → i < 8 → Left s xs i ≡ (eqb (number (take 4 (drop (4 * i) s))) (get_or xs i 0) && Left s xs (i + 1))
-left_next s xs i e h =
-    ap (λ (n : ℕ). equal (read 4 n (drop (4 * i) s)) (drop i xs)) (let d : 8 - i ≡ suc (8 - (i + 1)) = omega arith in d)
-    ∙ equal_next s xs i (8 - (i + 1)) (omega arith)
-
-module _ (s xs : List ℕ) (i x : ℕ) (e : length xs ≡ 8) (h : i < 8) (g : x ≡ number (take 4 (drop (4 * i) s))) where
-  pub left_same : eqb x (get_or xs i 0) ≡ true → Left s xs i ≡ Left s xs (i + 1)
-  left_same t = left_next s xs i e h ∙ ap (λ (b : Bool). b && Left s xs (i + 1)) (sym (ap (λ (n : ℕ). eqb n (get_or xs i 0)) g) ∙ t)
-
-  pub left_other : eqb x (get_or xs i 0) ≡ false → false ≡ Left s xs i
-  left_other t = sym (left_next s xs i e h ∙ ap (λ (b : Bool). b && Left s xs (i + 1)) (sym (ap (λ (n : ℕ). eqb n (get_or xs i 0)) g) ∙ t))
-
-pub left_none : (s xs : List ℕ) (i : ℕ) → length xs ≡ 8 → i ≡ 8 → true ≡ Left s xs i
+words_equal : (n : ℕ) (s xs : List ℕ) → equal (read 4 n s) xs ≡ true → (k : ℕ) → k < n → number (take 4 (drop (4 * k) s)) ≡ get_or xs k 0
 unfolding equal read
-left_none s xs i e d = sym (ap (Left s xs) d ∙ rw (drop_of_length-le xs {i = 8} (omega arith)))
+words_equal zero s xs h k g = absurd (omega arith)
+words_equal (suc n) s [] h k g = absurd (false≢true h)
+words_equal (suc n) s (x ∷ xs) h zero g = eqb-true _ _ (both _ _ h).0
+words_equal (suc n) s (x ∷ xs) h (suc k) g = sym (word_on s k) ∙ words_equal n (drop 4 s) xs (both _ _ h).1 k (omega (arith, g))
+
+pub equal_each : (b : Bool) (n : ℕ) (s xs : List ℕ) → length xs ≡ n → ((b ≡ true) ↔ ((k : ℕ) → k < n → number (take 4 (drop (4 * k) s)) ≡ get_or xs k 0)) → b ≡ equal (read 4 n s) xs
+equal_each b n s xs e h = go b (equal (read 4 n s) xs) h.0 h.1 (equal_words n s xs e) (words_equal n s xs)
+  where
+    go : {P : Type 0} (p q : Bool) → (p ≡ true → P) → (P → p ≡ true) → (P → q ≡ true) → (q ≡ true → P) → p ≡ q
+    go true q f g u v = sym (u (f refl))
+    go false true f g u v = absurd (false≢true (g (v refl)))
+    go false false f g u v = refl
+
+-- numbers read one by one
+pub read_each : (n : ℕ) (s xs : List ℕ) → length xs ≡ n → ((k : ℕ) → k < n → get_or xs k 0 ≡ number (take 4 (drop (4 * k) s))) → xs ≡ read 4 n s
+unfolding read
+read_each zero s [] e f = refl
+read_each zero s (x ∷ xs) e f = absurd (omega arith)
+read_each (suc n) s [] e f = absurd (omega arith)
+read_each (suc n) s (x ∷ xs) e f =
+    (λ i. f 0 (omega arith) i ∷ read_each n (drop 4 s) xs (omega arith) (λ k h. f (suc k) (omega (arith, h)) ∙ sym (word_on s k)) i)
 
 -- ---- numbers in bytes, side by side
 bytes_join : (n m s z : ℕ) → s < 256 ^ n → bytes (n + m) (s + 256 ^ n * z) ≡ bytes n s ++ bytes m z

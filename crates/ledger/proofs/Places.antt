@@ -8,10 +8,11 @@ use lib.Seq.{drop-drop, take_at, drop_at, length-take-le}
 use Rattle.total.specs.Total.{limbs_of}
 use Rattle.laws.specs.Splice.{splice}
 use Rattle.ledger.specs.Bytes.{number, fields, read}
-use Rattle.ledger.specs.Sheet.{row_place, size_for, most_rows, class_of, retotal, totals}
+use Rattle.ledger.specs.Sheet.{row_place, size_for, most_rows, class_of, sound, retotal, totals}
 use Rattle.ledger.specs.Calls.{Sized, rows_in, row_in, counts_in, total_in, recount, plus, revised, edited}
 use Rattle.laws.specs.laws.Splices.{drop_past, length-splice}
-use Rattle.ledger.specs.laws.Refusals.{class-lt, Undamaged}
+use mathlib.Core.Bool.{true}
+use Rattle.ledger.specs.laws.Refusals.{Undamaged}
 use Rattle.ledger.proofs.Counts.{limbs_bytes}
 
 -- ---- the totals written
@@ -69,8 +70,8 @@ module _ (s w : List ℕ) (i : ℕ) (h : Sized s) (g : i < rows_in s) (e : lengt
       ∙ (λ j. splice (splice s (row_place i) w) (row_place (rows_kept j)) (totals (recount (counts-kept j) (class_of (row_in s i)) (class_of w)) (retotal (total_kept j) (row_in s i) w)))
 
   -- what the totals' writer asks
-  pub revisable : (o n : ℕ) → Undamaged s i → rows_in s ≤ most_rows → o ≡ class_of (row_in s i) → n ≡ class_of w → class_of w < 5
-      → let t = splice s (row_place i) w in Sized t × (o < 5) × (n < 5) × (0 < get_or (counts_in t) o 0) × (plus (counts_in t) ≤ most_rows)
-  revisable o n u f eo en k =
+  pub revisable : Undamaged s i → rows_in s ≤ most_rows → (o : List ℕ) → o ≡ row_in s i → sound w ≡ true
+      → let t = splice s (row_place i) w in Sized t × (sound o ≡ true) × (sound w ≡ true) × (0 < get_or (counts_in t) (class_of o) 0) × (plus (counts_in t) ≤ most_rows)
+  revisable u f o eo k =
       let d : plus (counts_in (splice s (row_place i) w)) ≡ rows_in s = ap plus counts-kept ∙ u.add_up in
-      (row-length ∙ h ∙ ap size_for (sym rows_kept), rw eo (class-lt (row_in s i) u.row), rw en k, rw (counts-kept, eo) u.counted, omega arith)
+      (row-length ∙ h ∙ ap size_for (sym rows_kept), rw eo u.row, k, rw (counts-kept, eo) u.counted, omega arith)

@@ -8,9 +8,15 @@ use lib.Ieee.{Float, nan, inf, fin, eq, ne, is_nan, of_bits}
 use Rattle.laws.specs.Arithmetic.{+0, +∞, -∞}
 use Rattle.laws.specs.laws.Kinds.{nan_of_lem}
 use Rattle.answer.specs.Numbers.{last, stored}
+use Rattle.std.specs.Prelude.{Option, Some, None, IsSome, is_some}
+use Rattle.ledger.specs.declared.row.Class.{Class}
+use Rattle.ledger.specs.declared.row.Class.TheVariants.{Finite}
+use Rattle.ledger.specs.Class.{number_of, class_at}
 use Rattle.ledger.specs.declared.row.Share.{Share}
-use Rattle.ledger.specs.Sheet.{Row, function_in, refusal_in, times_in, first_in, sound_of, kind_of, class_of, value_of}
-use Rattle.ledger.specs.Calls.{Shared, share_of}
+use Rattle.ledger.specs.laws.Classes.{finite, a_class, class_back}
+use Rattle.ledger.specs.laws.Refusals.{class-lt}
+use Rattle.ledger.specs.Sheet.{Row, function_in, refusal_in, times_in, first_in, sound_of, sound, kind_of, class_of, value_of}
+use Rattle.ledger.specs.Calls.{share_of}
 
 -- ---- the kind of a value
 pub kind_nan : (x : Float) → ne x x ≡ true → 5 ≡ kind_of x
@@ -46,45 +52,54 @@ eq_self (inf false) = refl
 eq_self (fin true m e) = rw (eq-eqb _ _ refl)
 eq_self (fin false m e) = rw (eq-eqb _ _ refl)
 
--- ---- a row's share
-module _ (w : Row) (t : ℕ) (f : t ≡ times_in w) where
-  pub share_blank : function_in w ≡ 0 → Shared w 0 +0 t
-  unfolding class_of value_of
-  share_blank h = (rw (eq-eqb _ _ h), rw (eq-eqb _ _ h), f)
+-- ---- a row's class
+module _ (w : Row) where
+  pub class_blank : function_in w ≡ 0 → 0 ≡ class_of w
+  unfolding class_of
+  class_blank h = rw (eq-eqb _ _ h) refl
 
   module _ (h : function_in w ≡ 0 → ⊥) where
-    pub share_refused : 0 < refusal_in w → Shared w 4 +0 t
-    unfolding class_of value_of
-    share_refused g = (rw (ne_eqb _ _ h, lt-ltb _ _ g), rw (ne_eqb _ _ h, lt-ltb _ _ g), f)
+    pub class_refused : 0 < refusal_in w → 4 ≡ class_of w
+    unfolding class_of
+    class_refused g = rw (ne_eqb _ _ h, lt-ltb _ _ g) refl
 
-    module _ (g : refusal_in w ≤ 0) (x : Float) (k : ℕ) (e : x ≡ first_in w) (d : k ≡ kind_of x) where
-      class_kind : k ≡ class_of w
-      unfolding class_of
-      class_kind = rw (ne_eqb _ _ h, le-ltb _ _ g) (d ∙ ap kind_of e)
+    pub class_kind : refusal_in w ≤ 0 → kind_of (first_in w) ≡ class_of w
+    unfolding class_of
+    class_kind g = rw (ne_eqb _ _ h, le-ltb _ _ g) refl
 
-      pub share_finite : k ≡ 1 → Shared w 1 x t
-      unfolding value_of
-      share_finite o = (sym o ∙ class_kind, rw (eq-eqb (class_of w) 1 (sym class_kind ∙ o)) e, f)
+-- ---- its value
+module _ (w : Row) (c : Option Class) (e : c ≡ class_at (class_of w)) where
+  pub value_finite : c ≡ Some Finite → first_in w ≡ value_of w
+  unfolding value_of
+  value_finite h = rw (eq-eqb (class_of w) 1 (finite (class_of w) (sym e ∙ h))) refl
 
-      pub share_none : (k ≡ 1 → ⊥) → Shared w k +0 t
-      unfolding value_of
-      share_none n = (class_kind, rw (ne_eqb (class_of w) 1 (λ z. n (class_kind ∙ z))), f)
+  pub value_none : (c ≡ Some Finite → ⊥) → +0 ≡ value_of w
+  unfolding value_of class_at
+  value_none n = rw (ne_eqb (class_of w) 1 (λ z. n (e ∙ ap class_at z))) refl
 
 -- ---- and as one record, for any bytes: no row, or a row's 48
-pub no_row : (w : Row) → (length w ≡ 48 → ⊥) → record { class = 5; value = +0; times = 0 } ≡ share_of w
+pub no_row : (w : Row) → (length w ≡ 48 → ⊥) → record { class = None; value = +0; times = 0 } ≡ share_of w
 unfolding share_of
 no_row w h = rw (ne_eqb (length w) 48 h)
 
-module _ (w : Row) (h : length w ≡ 48) where
-  pub a-row : (class : ℕ) (x : Float) (k : ℕ) → Shared w class x k → record { class = class; value = x; times = k } ≡ share_of w
-  unfolding share_of
-  a-row class x k e = rw (eq-eqb (length w) 48 h) (λ i. record { class = e.0 i; value = e.1 i; times = e.2 i })
-
-pub shared : (w v : Row) → w ≡ v → length v ≡ 48 → (r : Share) → r ≡ share_of w → Shared v r.class r.value r.times
+whole : (w : Row) → length w ≡ 48 → record { class = class_at (class_of w); value = value_of w; times = times_in w } ≡ share_of w
 unfolding share_of
-shared w v d h r e =
-    let k : r ≡ record { class = class_of v; value = value_of v; times = times_in v } = e ∙ ap share_of d ∙ rw (eq-eqb (length v) 48 h) refl in
-    (λ i. (k i).class, λ i. (k i).value, λ i. (k i).times)
+whole w h = rw (eq-eqb (length w) 48 h) refl
+
+pub a-row : (w v : Row) (c : Option Class) (x : Float) (k : ℕ) → length w ≡ 48 → v ≡ w → c ≡ class_at (class_of v) → x ≡ value_of v → k ≡ times_in v
+    → record { class = c; value = x; times = k } ≡ share_of w
+a-row w v c x k h d ec ex ek = (λ i. record { class = ec i; value = ex i; times = ek i }) ∙ (λ i. record { class = class_at (class_of (d i)); value = value_of (d i); times = times_in (d i) }) ∙ whole w h
+
+pub shared : (w : Row) → length w ≡ 48 → (r : Share) → r ≡ share_of w → (r.class ≡ class_at (class_of w)) × (r.value ≡ value_of w) × (r.times ≡ times_in w)
+shared w h r e = let k = e ∙ sym (whole w h) in (λ i. (k i).class, λ i. (k i).value, λ i. (k i).times)
+
+-- ---- a sound row has a class
+module _ (w : Row) (h : sound w ≡ true) (o : Option Class) (e : o ≡ class_at (class_of w)) where
+  pub has_class : IsSome o
+  has_class = ap is_some (e ∙ (a_class (class_of w) (class-lt w h)).1)
+
+  pub its_number : (c : Class) → o ≡ Some c → number_of c ≡ class_of w
+  its_number c d = class_back (class_of w) c (sym e ∙ d)
 
 -- ---- the row tests, one by one
 module _ (f q : ℕ) (x : Float) where

@@ -1,67 +1,66 @@
--- Four and eight bytes read and written in place, and a run of numbers written one after the other. Assumes nothing.
-use mathlib.Core.Path.{◌≡◌, ap, ◌∙◌, sym}
+-- Numbers read and written as the library does, and a run of them written one after the other. Assumes nothing.
+use mathlib.Core.Path.{◌≡◌, refl, ap, ◌∙◌, sym}
 use mathlib.Core.List.{List, [], ◌∷◌, ◌++◌, append_assoc, append-nil}
-use Prim.Native.Nat.{ℕ, suc, ◌+◌, ◌-◌, ◌*◌, ◌/◌, ◌%◌, ◌≤◌, ◌<◌}
-use native.Mathlib.Nat.{div-div-eq-div-mul, mul-suc, mul-le-mul_left, le_of_lt}
-use native.Mathlib.Numerals.{add-one, add-two, add-three}
+use Prim.Native.Nat.{ℕ, zero, suc, ◌+◌, ◌-◌, ◌*◌, ◌/◌, ◌%◌, ◌^◌, ◌≤◌, ◌<◌}
+use native.Mathlib.Nat.{div-div-eq-div-mul, mul-suc, mul-le-mul_left, le_of_lt, pow-suc, div-one}
+use native.Mathlib.Numerals.{add-one}
 use native.Mathlib.Omega.{arith}
-use lib.ListN.{length, take, drop, get_or, set, length-append, length-drop, drop_of_length-le}
-use lib.Pow.{field, mod-mod-pow}
-use lib.Seq.{drop-cons, sets-eq, take-add, take-suc, take_all, drop-drop, take_at, length-take-le}
+use lib.ListN.{length, take, drop, get_or, length-append, length-drop, drop_of_length-le}
+use lib.Seq.{take-suc, take_all, drop-drop, take_at, length-take-le}
 use borrow.Rule.Slice.PartMut.{put_mid, Post-is}
+use Rattle.std.specs.Int.{w16, w32, w64, from_le_bytes, to_le_bytes, byte_worth, byte_at, bytes_low_first, sum_through}
 use Rattle.laws.specs.Splice.{splice}
 use Rattle.ledger.specs.Bytes.{bytes, number, fields}
 use Rattle.laws.specs.laws.Splices.{drop_past}
 use Rattle.ledger.specs.laws.Fields.{length-bytes, length_fields, fields-append}
 
 -- ---- reads
-pub number-two : (l : List ℕ) (at : ℕ) → at + 2 ≤ length l → number (take 2 (drop at l)) ≡ get_or l at 0 + 256 * get_or l (at + 1) 0
+number-next : (k : ℕ) (l : List ℕ) → number (take (suc k) l) ≡ number (take k l) + get_or l k 0 * 256 ^ k
 unfolding number
-number-two l at h = rw (drop-cons l at 0 (omega arith), drop-cons l (suc at) 0 (omega arith), add-one) (omega arith)
+number-next zero [] = refl
+number-next zero (x ∷ l) = omega arith
+number-next (suc k) [] = omega arith
+number-next (suc k) (x ∷ l) = rw (number-next k l, pow-suc 256 k) (omega arith)
 
-four : (l : List ℕ) (at : ℕ) → at + 4 ≤ length l → take 4 (drop at l) ≡ get_or l at 0 ∷ get_or l (at + 1) 0 ∷ get_or l (at + 2) 0 ∷ get_or l (at + 3) 0 ∷ []
-four l at h =
-    rw (drop-cons l at 0 (omega arith), drop-cons l (suc at) 0 (omega arith), drop-cons l (suc (suc at)) 0 (omega arith), drop-cons l (suc (suc (suc at))) 0 (omega arith), add-one, add-two, add-three)
+worth : (k b : ℕ) → byte_worth k b ≡ b * 256 ^ k
+worth zero b = omega arith
+worth (suc k) b = refl
 
-pub number_four : (l : List ℕ) (at : ℕ) → at + 4 ≤ length l
-    → number (take 4 (drop at l)) ≡ get_or l at 0 + 256 * get_or l (at + 1) 0 + 65536 * get_or l (at + 2) 0 + 16777216 * get_or l (at + 3) 0
+up_to : (k : ℕ) (l : List ℕ) → sum_through (λ i. byte_worth i (get_or l i 0)) k ≡ number (take (suc k) l)
 unfolding number
-number_four l at h = rw (four l at h) (omega arith)
+up_to zero [] = refl
+up_to zero (x ∷ l) = omega arith
+up_to (suc k) l = rw (up_to k l, number-next (suc k) l) refl
 
-joined : (a b c d : ℕ) (q : List ℕ) → number ((a ∷ b ∷ c ∷ d ∷ []) ++ q) ≡ number (a ∷ b ∷ c ∷ d ∷ []) + 4294967296 * number q
-unfolding number
-joined a b c d q = omega arith
+-- two, four and eight bytes of a part, as the number that stands there
+module _ (s : List ℕ) (at : ℕ) (l : List ℕ) (n : ℕ) where
+  long : (w : ℕ) → at + w ≤ length s → l ≡ take w (drop at s) → length l ≡ w
+  long w h d = ap length d ∙ length-take-le w (drop at s) (rw (length-drop at s) (omega (arith, h)))
 
-pub number_eight : (l : List ℕ) (at : ℕ) → at + 8 ≤ length l
-    → number (take 8 (drop at l)) ≡ number (take 4 (drop at l)) + 4294967296 * number (take 4 (drop (at + 4) l))
-number_eight l at h =
-    rw (take-add 4 4 (drop at l), drop-drop 4 at l, four l at (omega arith)) (joined _ _ _ _ (take 4 (drop (at + 4) l)))
+  pub part_2 : at + 2 ≤ length s → l ≡ take 2 (drop at s) → n ≡ from_le_bytes w16 l → n ≡ number (take 2 (drop at s))
+  part_2 h d e = e ∙ up_to 1 l ∙ ap number (take_all 2 l (omega (arith, long 2 h d)) ∙ d)
+
+  pub part_4 : at + 4 ≤ length s → l ≡ take 4 (drop at s) → n ≡ from_le_bytes w32 l → n ≡ number (take 4 (drop at s))
+  part_4 h d e = e ∙ up_to 3 l ∙ ap number (take_all 4 l (omega (arith, long 4 h d)) ∙ d)
+
+  pub part_8 : at + 8 ≤ length s → l ≡ take 8 (drop at s) → n ≡ from_le_bytes w64 l → n ≡ number (take 8 (drop at s))
+  part_8 h d e = e ∙ up_to 7 l ∙ ap number (take_all 8 l (omega (arith, long 8 h d)) ∙ d)
 
 -- ---- writes
-pub put_four : (l : List ℕ) (at a b c d : ℕ) → at + 4 ≤ length l
-    → set (set (set (set l at a) (at + 1) b) (at + 2) c) (at + 3) d ≡ splice l at (a ∷ b ∷ c ∷ d ∷ [])
-put_four l at a b c d h =
-    rw (add-one, add-two, add-three)
-    (sets-eq (a ∷ b ∷ c ∷ d ∷ []) l at h ∙ append_assoc (take at l) (a ∷ b ∷ c ∷ d ∷ []) (drop (at + 4) l))
+one-byte : (i n : ℕ) → byte_at i n ≡ n / 256 ^ i % 256
+one-byte zero n = rw (div-one n)
+one-byte (suc i) n = refl
 
-pub bytes_four : (v : ℕ) → bytes 4 v ≡ v % 256 ∷ v / 256 % 256 ∷ v / 65536 % 256 ∷ v / 16777216 % 256 ∷ []
+from_byte : (k i n : ℕ) → bytes_low_first i k n ≡ bytes k (n / 256 ^ i)
 unfolding bytes
-bytes_four v = rw (div-div-eq-div-mul v 256 256, div-div-eq-div-mul v 65536 256)
+from_byte zero i n = refl
+from_byte (suc k) i n = rw (one-byte i n, from_byte k (suc i) n, pow-suc 256 i, div-div-eq-div-mul n (256 ^ i) 256)
 
-four_low : (v : ℕ) → bytes 4 (v % 4294967296) ≡ bytes 4 v
-four_low v =
-    let a : v % 4294967296 % 256 ≡ v % 256 = omega arith in
-    let b : v % 4294967296 / 256 % 256 ≡ v / 256 % 256 = ap (λ (t : ℕ). t % 256) (field v 24 8) ∙ mod-mod-pow (v / 256) 16 8 in
-    let c : v % 4294967296 / 65536 % 256 ≡ v / 65536 % 256 = ap (λ (t : ℕ). t % 256) (field v 16 16) ∙ mod-mod-pow (v / 65536) 8 8 in
-    let d : v % 4294967296 / 16777216 % 256 ≡ v / 16777216 % 256 = ap (λ (t : ℕ). t % 256) (field v 8 24) ∙ mod-mod-pow (v / 16777216) 0 8 in
-    rw (bytes_four (v % 4294967296), bytes_four v, a, b, c, d)
+pub write_4 : (n : ℕ) → to_le_bytes w32 n ≡ bytes 4 n
+write_4 n = from_byte 4 0 n ∙ ap (bytes 4) (div-one n)
 
-halves : (v : ℕ) → bytes 8 v ≡ bytes 4 v ++ bytes 4 (v / 4294967296)
-unfolding bytes
-halves v = simp div-div-eq-div-mul
-
-pub bytes_eight : (v : ℕ) → bytes 8 v ≡ bytes 4 (v % 4294967296) ++ bytes 4 (v / 4294967296 % 4294967296)
-bytes_eight v = rw (four_low v, four_low (v / 4294967296)) (halves v)
+pub write_8 : (n : ℕ) → to_le_bytes w64 n ≡ bytes 8 n
+write_8 n = from_byte 8 0 n ∙ ap (bytes 8) (div-one n)
 
 -- ---- a run of numbers of w bytes each: after i of them, those lie at the start and the rest is as it was
 abbrev pub Written : ℕ → List ℕ → List ℕ → ℕ → List ℕ → Type 0

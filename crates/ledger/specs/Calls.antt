@@ -1,5 +1,5 @@
 -- What each call answers, and what it makes of the sheet's bytes (01, "The leg sheet", from "Calls" on). Definitions only.
-use Rattle.std.specs.Prelude.{ℕ, ◌+◌, ◌-◌, ◌/◌, ◌≡◌, Bool, true, false, ◌&&◌, ◌||◌, not, List, [], ◌∷◌, leb, ltb, eqb, length, take, drop, get_or, set, replicate, Float}
+use Rattle.std.specs.Prelude.{ℕ, ◌+◌, ◌-◌, ◌/◌, ◌≡◌, Bool, true, false, ◌&&◌, ◌||◌, not, List, [], ◌∷◌, leb, ltb, eqb, length, take, drop, get_or, set, replicate, Float, None}
 use Rattle.laws.specs.Arithmetic.{+0}
 use Rattle.laws.specs.Ladder.{when◌gives◌else◌}
 use Rattle.answer.specs.Numbers.{last}
@@ -7,7 +7,8 @@ use Rattle.total.specs.Total.{round_total}
 use Rattle.laws.specs.Splice.{splice}
 use Rattle.ledger.specs.declared.row.Share.{Share}
 use Rattle.ledger.specs.Bytes.{number, read}
-use Rattle.ledger.specs.Sheet.{Row, withdrawn, without_times, with_times, entries, size_for, most_rows, row_place, blank_row, function_in, times_in, no_class, class_of, value_of, sound, retotal, totals, encode}
+use Rattle.ledger.specs.Class.{class_at}
+use Rattle.ledger.specs.Sheet.{Row, withdrawn, without_times, with_times, entries, size_for, most_rows, row_place, blank_row, function_in, times_in, class_of, value_of, sound, retotal, totals, encode}
 
 -- ---- what stands in bytes that may be a sheet
 
@@ -108,15 +109,11 @@ blank_refusal s r =
 unfoldable pub blank_of : List ℕ → ℕ → List ℕ
 blank_of s r = when eqb (blank_refusal s r) 0 gives encode (replicate r blank_row) else s
 
--- a row's share of the totals: its class, its value k times over
-abbrev pub Shared : Row → ℕ → Float → ℕ → Type 0
-Shared w class x k = (class ≡ class_of w) × (x ≡ value_of w) × (k ≡ times_in w)
-
 -- the share of any bytes: those that are not 48 are no row
 unfoldable pub share_of : List ℕ → Share
 share_of w =
-    when eqb (length w) 48 gives record { class = class_of w; value = value_of w; times = times_in w } else
-    record { class = no_class; value = +0; times = 0 }
+    when eqb (length w) 48 gives record { class = class_at (class_of w); value = value_of w; times = times_in w } else
+    record { class = None; value = +0; times = 0 }
 
 -- one less of the old class, one more of the new
 unfoldable pub recount : List ℕ → ℕ → ℕ → List ℕ

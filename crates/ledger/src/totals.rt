@@ -1,13 +1,16 @@
 // The totals: five counts, four zeros, the 272-byte total.
-ghost use Rattle.std.specs.Prelude.{◌≡◌, ◌+◌, ◌*◌, ◌≤◌, ◌<◌, length, get_or, [], ◌∷◌, ◌++◌};
+ghost use Rattle.std.specs.Prelude.{◌≡◌, true, ◌+◌, ◌*◌, ◌≤◌, ◌<◌, length, get_or, [], ◌∷◌, ◌++◌};
 ghost use Rattle.total.specs.Total.{val, limbs_of, add_of, take_of};
 ghost use Rattle.laws.specs.Splice.{splice};
 ghost use Rattle.ledger.specs.Bytes.{number, fields};
-ghost use Rattle.ledger.specs.Sheet.{Row, most_rows, row_place};
-ghost use Rattle.ledger.specs.Calls.{Sized, rows_in, counts_in, total_in, Shared, plus, recount, revised};
+ghost use Rattle.ledger.specs.Sheet.{most_rows, row_place, sound, class_of};
+ghost use Rattle.ledger.specs.Class.{number_of};
+ghost use Rattle.ledger.specs.Calls.{Sized, rows_in, counts_in, total_in, plus, recount, revised};
 
-use super::bytes::{get_u32, get_u64, pair, put_words, wider};
-use super::row::Share;
+use std::array::from_fn;
+
+use super::bytes::{pair, part, put_words};
+use super::row::{Class, Share, index, share_of};
 use total::Total;
 
 // Where the totals start: they are the last 296 bytes.
@@ -23,19 +26,14 @@ pub(crate) fn read_counts(s: &[u8]) -> [u32; 5]
     ensures { result ≡ counts_in s.now }
 {
     let at = totals_place(s);
-    [
-        get_u32(s, at),
-        get_u32(s, at + 4),
-        get_u32(s, at + 8),
-        get_u32(s, at + 12),
-        get_u32(s, at + 16),
-    ]
+    from_fn(|k| u32::from_le_bytes(part(s, at + 4 * k)))
 }
 
-pub(crate) fn sum(counts: [u32; 5]) -> u64
-    ensures { result ≡ plus counts }
+pub(crate) fn sum(counts: &[u32]) -> u64
+    requires { length counts.now ≤ 5 }
+    ensures { result ≡ plus counts.now }
 {
-    wider(counts[0]) + wider(counts[1]) + wider(counts[2]) + wider(counts[3]) + wider(counts[4])
+    counts.iter().map(|count| *count as u64).sum()
 }
 
 // 34 limbs.
@@ -43,13 +41,11 @@ fn read_limbs(s: &[u8]) -> [u64; 34]
     requires { length s.now ≡ 272 }
     ensures { val result ≡ number s.now }
 {
-    let mut out = [0u64; 34];
-    let mut i: usize = 0;
-    while i < 34 {
-        out[i] = get_u64(s, 8 * i);
-        i += 1;
+    let mut limbs = [0; 34];
+    for (i, limb) in limbs.iter_mut().enumerate() {
+        *limb = u64::from_le_bytes(part(s, 8 * i));
     }
-    out
+    limbs
 }
 
 // The sheet's total.
@@ -63,13 +59,13 @@ pub(crate) fn read_total(s: &[u8]) -> [u64; 34]
 }
 
 // One less of the old class, one more of the new, two counts to a word; the four bytes after the counts are zero.
-fn recounted(counts: [u32; 5], old: usize, new: usize) -> [u64; 3]
-    requires { (old < 5) × (new < 5) × (0 < get_or counts old 0) × (plus counts ≤ most_rows) }
-    ensures { fields 8 result ≡ fields 4 (recount counts old new ++ (0 ∷ [])) }
+fn recounted(counts: [u32; 5], old: Class, new: Class) -> [u64; 3]
+    requires { (0 < get_or counts (number_of old) 0) × (plus counts ≤ most_rows) }
+    ensures { fields 8 result ≡ fields 4 (recount counts (number_of old) (number_of new) ++ (0 ∷ [])) }
 {
     let mut c = counts;
-    c[old] -= 1;
-    c[new] += 1;
+    c[index(old)] -= 1;
+    c[index(new)] += 1;
     [pair(c[0], c[1]), pair(c[2], c[3]), pair(c[4], 0)]
 }
 
@@ -94,13 +90,15 @@ fn write_totals(s: &mut [u8], counts: [u64; 3], limbs: [u64; 34])
 }
 
 // An old row's share taken out of the totals, and a new row's put in.
-pub(crate) fn revise(sheet: &mut [u8], old: Share, new: Share)
-    requires { Sized sheet.old × (old.class < 5) × (new.class < 5) × (0 < get_or (counts_in sheet.old) old.class 0) × (plus (counts_in sheet.old) ≤ most_rows) }
-    ensures { (o n : Row) → Shared o old.class old.value old.times → Shared n new.class new.value new.times → sheet.new ≡ splice sheet.old (row_place (rows_in sheet.old)) (revised sheet.old o n) }
+pub(crate) fn revise(sheet: &mut [u8], old: &[u8; 48], new: &[u8; 48])
+    requires { Sized sheet.old × (sound old.now ≡ true) × (sound new.now ≡ true) × (0 < get_or (counts_in sheet.old) (class_of old.now) 0) × (plus (counts_in sheet.old) ≤ most_rows) }
+    ensures { sheet.new ≡ splice sheet.old (row_place (rows_in sheet.old)) (revised sheet.old old.now new.now) }
 {
+    let out = share_of(old);
+    let put = share_of(new);
+    let counts = recounted(read_counts(sheet), out.class.unwrap(), put.class.unwrap());
+    let limbs = moved(sheet, out, put);
     let from = totals_place(sheet);
     let to = sheet.len();
-    let counts = recounted(read_counts(sheet), old.class, new.class);
-    let limbs = moved(sheet, old, new);
     write_totals(&mut sheet[from..to], counts, limbs);
 }

@@ -2,6 +2,7 @@
 #![tactic(auto)]
 
 use files::Program;
+use turning::Way;
 
 fn main(rt: HostRuntime) {
     let program = Program {
@@ -9,5 +10,5 @@ fn main(rt: HostRuntime) {
         name: b"legback",
         output: files::STDOUT,
     };
-    turning::run(program, b"legback NEW OLD", false);
+    turning::run(program, b"legback NEW OLD", Way::Back);
 }

@@ -2,6 +2,7 @@
 #![tactic(auto)]
 
 use files::Program;
+use turning::Way;
 
 fn main(rt: HostRuntime) {
     let program = Program {
@@ -9,5 +10,5 @@ fn main(rt: HostRuntime) {
         name: b"legforth",
         output: files::STDOUT,
     };
-    turning::run(program, b"legforth OLD NEW", true);
+    turning::run(program, b"legforth OLD NEW", Way::Forth);
 }

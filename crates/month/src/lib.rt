@@ -33,14 +33,13 @@ pub fn start() -> Report
 pub fn stop(sheet: &[u8]) -> Result<(), Stop>
     ensures { result ≡ stop_of sheet.now }
 {
-    if ledger::total_refusal(sheet) != 0 {
+    if ledger::total_refusal(sheet).is_err() {
         return Err(Stop::NotASheet);
     }
-    let row = inspection::first_rejected(sheet);
-    if (row as usize) < ledger::rows_in(sheet) {
-        return Err(Stop::Damaged(row));
+    match inspection::first_rejected(sheet) {
+        Some(row) => Err(Stop::Damaged(row)),
+        None => Ok(()),
     }
-    Ok(())
 }
 
 // One more at place k.

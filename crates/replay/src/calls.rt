@@ -40,7 +40,7 @@ fn make(mut f: Fields<'_>, sheet: &mut [u8]) -> Option<bool> {
     let rows = f.word()?;
     let refusal = f.byte()?;
     f.end()?;
-    Some(ledger::make_blank(sheet, rows) == refusal)
+    Some(ledger::number(ledger::make_blank(sheet, rows)) == refusal)
 }
 
 fn edit(mut f: Fields<'_>, sheet: &mut [u8]) -> Option<bool> {
@@ -54,14 +54,14 @@ fn edit(mut f: Fields<'_>, sheet: &mut [u8]) -> Option<bool> {
     };
     let refusal = f.byte()?;
     f.end()?;
-    Some(sheet::edit(sheet, row, entry) == refusal)
+    Some(ledger::number(sheet::edit(sheet, row, entry)) == refusal)
 }
 
 fn clear(mut f: Fields<'_>, sheet: &mut [u8]) -> Option<bool> {
     let row = f.word()?;
     let refusal = f.byte()?;
     f.end()?;
-    Some(clearing::clear(sheet, row) == refusal)
+    Some(ledger::number(clearing::clear(sheet, row)) == refusal)
 }
 
 // A byte put where no call puts one.
@@ -77,7 +77,7 @@ fn poke(mut f: Fields<'_>, sheet: &mut [u8]) -> Option<bool> {
 fn read(mut f: Fields<'_>, sheet: &[u8]) -> Option<bool> {
     let row = f.word()?;
     let refusal = f.byte()?;
-    if ledger::row_refusal(sheet, row) != refusal {
+    if ledger::number(ledger::row_refusal(sheet, row)) != refusal {
         return None;
     }
     Some(f.are(ledger::read_row(sheet, row)))
@@ -88,7 +88,7 @@ fn total(mut f: Fields<'_>, sheet: &[u8]) -> Option<bool> {
     let pattern = f.long()?;
     f.end()?;
     Some(
-        ledger::total_refusal(sheet) == refusal
+        ledger::number(ledger::total_refusal(sheet)) == refusal
             && bits::to_pattern(ledger::total(sheet)) == pattern,
     )
 }

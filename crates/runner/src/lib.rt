@@ -28,7 +28,7 @@ fn begin(from: &[u8], sheet: &mut [u8; LARGEST]) -> State
     requires { sheet.old ≡ zeros largest }
     ensures { Begins (begun_of from.now) (room result (zeros longest) sheet.new) }
 {
-    if ledger::total_refusal(from) != 0 {
+    if ledger::total_refusal(from).is_err() {
         return start();
     }
     text::put_bytes(sheet, 0, from);

@@ -34,8 +34,8 @@ fn count_line(k: u64, s: &[u8], sheet: &mut [u8]) -> State
         return between(k, 0, true);
     }
     let n = ledger::size_for(rows as u32);
-    let refusal = ledger::make_blank(&mut sheet[0..n], rows as u32);
-    between(k, n, refusal != 0)
+    let made = ledger::make_blank(&mut sheet[0..n], rows as u32);
+    between(k, n, made.is_err())
 }
 
 // Line k is an edit.
@@ -46,7 +46,7 @@ fn edit_line(k: u64, size: usize, s: &[u8], sheet: &mut [u8]) -> State
         return between(k, size, true);
     };
     let n = size.min(sheet.len());
-    let refusal = sheet::edit(
+    let done = sheet::edit(
         &mut sheet[0..n],
         edit.row,
         Entry {
@@ -57,7 +57,7 @@ fn edit_line(k: u64, size: usize, s: &[u8], sheet: &mut [u8]) -> State
             times: edit.times,
         },
     );
-    between(k, size, refusal != 0)
+    between(k, size, done.is_err())
 }
 
 pub(crate) fn take_line(st: State, s: &[u8], sheet: &mut [u8]) -> State

@@ -3,8 +3,10 @@
 #![tactic(auto)]
 
 ghost use Rattle.std.specs.Prelude.{◌≡◌};
+ghost use Rattle.answer.specs.Answer.{refusal_of};
 ghost use Rattle.sheet.specs.Edit.{edit_refusal, edit_of};
 
+use answer::Refusal;
 pub use row::words;
 
 mod functions;
@@ -22,9 +24,9 @@ pub struct Entry {
     pub times: u16,
 }
 
-// An entry worked out in a row: 7, 8, 22, 9 or 10, or 0, stored.
-pub fn edit(sheet: &mut [u8], row: u32, entry: Entry) -> u8
-    ensures { (result ≡ edit_refusal sheet.old row entry.function) × (sheet.new ≡ edit_of sheet.old row entry) }
+// An entry worked out in a row, or 7, 8, 22, 9 or 10.
+pub fn edit(sheet: &mut [u8], row: u32, entry: Entry) -> Result<(), Refusal>
+    ensures { (refusal_of result ≡ edit_refusal sheet.old row entry.function) × (sheet.new ≡ edit_of sheet.old row entry) }
 {
     ledger::place(sheet, row, words(entry))
 }

@@ -16,15 +16,11 @@ fn argument(function: u8, k: u8, x: u64) -> u64
 fn kept(entry: Entry) -> Entry
     ensures { result ≡ kept_of entry }
 {
-    let a = argument(entry.function, 0, entry.a);
-    let b = argument(entry.function, 1, entry.b);
-    let c = argument(entry.function, 2, entry.c);
     Entry {
-        function: entry.function,
-        a,
-        b,
-        c,
-        times: entry.times,
+        a: argument(entry.function, 0, entry.a),
+        b: argument(entry.function, 1, entry.b),
+        c: argument(entry.function, 2, entry.c),
+        ..entry
     }
 }
 

@@ -18,10 +18,30 @@ ghost use Rattle.sheet.specs.Functions.{counted_of};
 ghost use Rattle.ledger.specs.Calls.{blank_refusal, blank_of, row_refusal, times_of, total_refusal, total_of, count_of};
 ghost use Rattle.inspection.specs.Rows.{class_in};
 ghost use Rattle.sheet.specs.Edit.{edit_refusal, edit_of};
-ghost use Rattle.conversion.specs.Conversion.{stop_of, converted_of};
+ghost use Rattle.conversion.specs.Conversion.{stopped_of, stop_of, converted_of};
 ghost use Rattle.shuttlemint.specs.Face.{evaluate_refusal, evaluate_out, row_place_of};
 
+use conversion::{Stop, Way};
 use sheet::Entry;
+
+// The number of what refuses a conversion, 0 where nothing does, and the row that it is about.
+fn stop_number(done: Result<(), Stop>) -> u8
+    ensures { result ≡ (stopped_of done).refusal }
+{
+    match done {
+        Ok(()) => 0,
+        Err(stop) => stop.refusal.number(),
+    }
+}
+
+fn stop_row(done: Result<(), Stop>) -> u32
+    ensures { result ≡ (stopped_of done).row }
+{
+    match done {
+        Ok(()) => 0,
+        Err(stop) => stop.row,
+    }
+}
 
 #[unsafe(no_mangle)]
 pub extern "C" fn sm_magnitude(x: u64) -> u64
@@ -124,7 +144,7 @@ pub extern "C" fn sm_rounds(function: u8, a: u64, b: u64, c: u64) -> usize
 pub extern "C" fn sm_blank(sheet: &mut [u8], rows: u32) -> u8
     ensures { (result ≡ blank_refusal sheet.old rows) × (sheet.new ≡ blank_of sheet.old rows) }
 {
-    ledger::make_blank(sheet, rows)
+    ledger::number(ledger::make_blank(sheet, rows))
 }
 
 #[unsafe(no_mangle)]
@@ -139,17 +159,14 @@ pub extern "C" fn sm_edit(
 ) -> u8
     ensures { (result ≡ edit_refusal sheet.old row function) × (sheet.new ≡ edit_of sheet.old row (record { function = function; a = a; b = b; c = c; times = times })) }
 {
-    sheet::edit(
-        sheet,
-        row,
-        Entry {
-            function,
-            a,
-            b,
-            c,
-            times,
-        },
-    )
+    let entry = Entry {
+        function,
+        a,
+        b,
+        c,
+        times,
+    };
+    ledger::number(sheet::edit(sheet, row, entry))
 }
 
 // Where the row's own 48 bytes start in the lent sheet; its length where the read is refused, so that no byte stands there.
@@ -157,7 +174,7 @@ pub extern "C" fn sm_edit(
 pub extern "C" fn sm_row_at(sheet: &[u8], row: u32) -> usize
     ensures { result ≡ row_place_of sheet.now row }
 {
-    if ledger::row_refusal(sheet, row) != 0 {
+    if ledger::row_refusal(sheet, row).is_err() {
         return sheet.len();
     }
     ledger::row_place(row)
@@ -168,7 +185,7 @@ pub extern "C" fn sm_row_at(sheet: &[u8], row: u32) -> usize
 pub extern "C" fn sm_row_refusal(sheet: &[u8], row: u32) -> u8
     ensures { result ≡ row_refusal sheet.now row }
 {
-    ledger::row_refusal(sheet, row)
+    ledger::number(ledger::row_refusal(sheet, row))
 }
 
 // The row's class, as `sm_count` numbers them; 5 where a NaN first answer leaves it none, or the row can't be read.
@@ -176,7 +193,7 @@ pub extern "C" fn sm_row_refusal(sheet: &[u8], row: u32) -> u8
 pub extern "C" fn sm_row_class(sheet: &[u8], row: u32) -> usize
     ensures { result ≡ class_in sheet.now row }
 {
-    inspection::row_class(sheet, row)
+    ledger::class_number(inspection::row_class(sheet, row))
 }
 
 // How often the row was driven, as its bytes say; in a sheet that says 1, whose rows keep no times, once, and a blank row never. 0 where the row can't be read.
@@ -192,7 +209,7 @@ pub extern "C" fn sm_row_times(sheet: &[u8], row: u32) -> u16
 pub extern "C" fn sm_forth(sheet: &mut [u8]) -> u8
     ensures { (result ≡ (stop_of true sheet.old).refusal) × (sheet.new ≡ converted_of true sheet.old) }
 {
-    conversion::convert(sheet, true).refusal
+    stop_number(conversion::convert(sheet, Way::Forth))
 }
 
 // And the way back: 7, 10, 17, or 0.
@@ -200,7 +217,7 @@ pub extern "C" fn sm_forth(sheet: &mut [u8]) -> u8
 pub extern "C" fn sm_back(sheet: &mut [u8]) -> u8
     ensures { (result ≡ (stop_of false sheet.old).refusal) × (sheet.new ≡ converted_of false sheet.old) }
 {
-    conversion::convert(sheet, false).refusal
+    stop_number(conversion::convert(sheet, Way::Back))
 }
 
 // The row that such a refusal of the sheet as it is would be about; the number of rows where 10 is about the counts, and 0 where no row is meant.
@@ -208,14 +225,14 @@ pub extern "C" fn sm_back(sheet: &mut [u8]) -> u8
 pub extern "C" fn sm_forth_row(sheet: &[u8]) -> u32
     ensures { result ≡ (stop_of true sheet.now).row }
 {
-    conversion::refusal(sheet, true).row
+    stop_row(conversion::refusal(sheet, Way::Forth))
 }
 
 #[unsafe(no_mangle)]
 pub extern "C" fn sm_back_row(sheet: &[u8]) -> u32
     ensures { result ≡ (stop_of false sheet.now).row }
 {
-    conversion::refusal(sheet, false).row
+    stop_row(conversion::refusal(sheet, Way::Back))
 }
 
 // How many rows are blank (0), finite (1), +∞ (2), -∞ (3) or refused (4), by the sheet's own counts; 0 for another class or where `sm_total_refusal` is not 0.
@@ -239,5 +256,5 @@ pub extern "C" fn sm_total(sheet: &[u8]) -> u64
 pub extern "C" fn sm_total_refusal(sheet: &[u8]) -> u8
     ensures { result ≡ total_refusal sheet.now }
 {
-    ledger::total_refusal(sheet)
+    ledger::number(ledger::total_refusal(sheet))
 }

@@ -4,8 +4,7 @@ use Prim.Native.Nat.{ℕ}
 use mathlib.Core.Bool.{Bool, true, false}
 use mathlib.Core.List.{List}
 use Rattle.ledger.specs.Calls.{rows_in}
-use Rattle.conversion.specs.declared.Stop.{Stop}
-use Rattle.conversion.specs.Conversion.{stop_of, converted_of}
+use Rattle.conversion.specs.Conversion.{Stopped, stop_of, converted_of}
 use Rattle.files.specs.Save.{Save}
 use Rattle.files.specs.Notes.{cannot_write}
 use Rattle.files.specs.declared.sending.Output.{Output}
@@ -13,14 +12,14 @@ use Rattle.files.specs.Output.{Wrote}
 use Rattle.turning.specs.Turning.{stop_line, rows_line, refused, unwritten, written, Answered}
 
 -- nothing refused the sheet
-pub none_left : (bytes : List ℕ) (forth : Bool) (stop : Stop) → stop ≡ stop_of forth bytes → stop.refusal ≡ 0 → (stop_of forth bytes).refusal ≡ 0
-none_left bytes forth stop s zero = ap (λ (t : Stop). t.refusal) (sym s) ∙ zero
+pub none_left : (bytes : List ℕ) (forth : Bool) (stop : Stopped) → stop ≡ stop_of forth bytes → stop.refusal ≡ 0 → (stop_of forth bytes).refusal ≡ 0
+none_left bytes forth stop s zero = ap (λ (t : Stopped). t.refusal) (sym s) ∙ zero
 
-module _ (bytes to : List ℕ) (forth : Bool) (out end : Output) (stop : Stop) (rows : ℕ) (s : stop ≡ stop_of forth bytes) (r : rows ≡ rows_in bytes) where
+module _ (bytes to : List ℕ) (forth : Bool) (out end : Output) (stop : Stopped) (rows : ℕ) (s : stop ≡ stop_of forth bytes) (r : rows ≡ rows_in bytes) where
   pub settled_refused : (stop.refusal ≡ 0 → ⊥) → Wrote out (stop_line stop rows) end → Answered bytes to forth out end
   settled_refused h w = record {
     text = stop_line stop rows;
-    settled = refused (λ z. h (ap (λ (t : Stop). t.refusal) s ∙ z)) (ap (λ (t : Stop). stop_line t rows) s ∙ ap (stop_line (stop_of forth bytes)) r);
+    settled = refused (λ z. h (ap (λ (t : Stopped). t.refusal) s ∙ z)) (ap (λ (t : Stopped). stop_line t rows) s ∙ ap (stop_line (stop_of forth bytes)) r);
     wrote = w;
   }
 

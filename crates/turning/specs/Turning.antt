@@ -3,8 +3,7 @@ use Rattle.std.specs.Prelude.{◌≡◌, ℕ, Bool, true, false, List, eqb, ℤ}
 use Rattle.laws.specs.Ascii.{ascii}
 use Rattle.laws.specs.Ladder.{when◌gives◌else◌}
 use Rattle.ledger.specs.Calls.{rows_in}
-use Rattle.conversion.specs.declared.Stop.{Stop}
-use Rattle.conversion.specs.Conversion.{stop_of, converted_of}
+use Rattle.conversion.specs.Conversion.{Stopped, stop_of, converted_of}
 use Rattle.files.specs.Calls.{Called, words, Counts}
 use Rattle.loading.specs.Load.{Load}
 use Rattle.files.specs.Save.{Save}
@@ -14,7 +13,7 @@ use Rattle.files.specs.declared.sending.Output.{Output}
 use Rattle.files.specs.Output.{output_of, Wrote}
 
 -- what refused the sheet, of r rows: 7; 17 with its row; 10 for the counts, or with its row
-unfoldable pub stop_line : Stop → ℕ → List ℕ
+unfoldable pub stop_line : Stopped → ℕ → List ℕ
 stop_line s r =
     when eqb s.refusal 7 gives refused7 else
     when eqb s.refusal 17 gives number_line (ascii "refused 17 row ") s.row else

@@ -2,22 +2,26 @@
 #![tactic(auto)]
 
 ghost use Rattle.std.specs.Result.{is_ok};
+ghost use Rattle.answer.specs.Numbers.{number};
+ghost use Rattle.conversion.specs.Conversion.{is_forth, stopped};
 ghost use Rattle.files.specs.Save.{Save};
 ghost use Rattle.files.specs.Output.{output_of, Wrote};
 ghost use Rattle.turning.specs.Turning.{stop_line, Converted, Answered, Done, Ran};
 
 use conversion::Stop;
+pub use conversion::Way;
 use files::{Output, Program, Unsaved, WORD};
 use loading::{MOST, put_number};
 
 // What refused the sheet.
 fn put_stop(rt: &HostRuntime, out: Output, stop: Stop, rows: u64) -> Output
-    ensures { Wrote out (stop_line stop rows) result }
+    ensures { Wrote out (stop_line (stopped (number stop.refusal) stop.row) rows) result }
 {
-    if stop.refusal == 7 {
+    let refusal = stop.refusal.number();
+    if refusal == 7 {
         return loading::refused_7(rt, out);
     }
-    if stop.refusal == 17 {
+    if refusal == 17 {
         return put_number(rt, out, b"refused 17 row ", stop.row as u64);
     }
     if stop.row as u64 == rows {
@@ -35,13 +39,12 @@ fn save_sheet(rt: &HostRuntime, to: &[u8], sheet: &[u8]) -> Result<(), Unsaved>
 }
 
 // The sheet that was read, converted where it lies and put into the file of this name; or why not.
-fn settle(program: Program<'_>, sheet: &mut [u8], to: &[u8], forth: bool) -> Output
-    ensures { Answered sheet.old to.now forth (output_of program.entry.output) result }
+fn settle(program: Program<'_>, sheet: &mut [u8], to: &[u8], way: Way) -> Output
+    ensures { Answered sheet.old to.now (is_forth way) (output_of program.entry.output) result }
 {
     let out = program.begin();
     let rows = ledger::rows_in(sheet) as u64;
-    let stop = conversion::convert(sheet, forth);
-    if stop.refusal != 0 {
+    if let Err(stop) = conversion::convert(sheet, way) {
         program.tell(
             b": the sheet is not converted, and the second file is as it was; docs/PROGRAM.md says what the number means\n",
         );
@@ -57,8 +60,8 @@ fn settle(program: Program<'_>, sheet: &mut [u8], to: &[u8], forth: bool) -> Out
 }
 
 // The file named first is read, the one named second is written, and what came of it is said.
-fn turn(program: Program<'_>, from: &[u8], to: &[u8], forth: bool) -> Output
-    ensures { Done program.entry.output from.now to.now forth result }
+fn turn(program: Program<'_>, from: &[u8], to: &[u8], way: Way) -> Output
+    ensures { Done program.entry.output from.now to.now (is_forth way) result }
 {
     let mut sheet = [0u8; MOST];
     let Some(bytes) = loading::load(program.rt, from, &mut sheet) else {
@@ -68,12 +71,12 @@ fn turn(program: Program<'_>, from: &[u8], to: &[u8], forth: bool) -> Output
             b": nothing was converted; look at the first name, and whether that file may be read\n",
         );
     };
-    settle(program, bytes, to, forth)
+    settle(program, bytes, to, way)
 }
 
 // One run of the program, which is called so.
-pub fn run(program: Program<'_>, call: &[u8], forth: bool)
-    ensures { Ran program.entry.output call.now forth }
+pub fn run(program: Program<'_>, call: &[u8], way: Way)
+    ensures { Ran program.entry.output call.now (is_forth way) }
 {
     if files::word_count(program.rt) != 3 {
         program.usage(call);
@@ -83,7 +86,7 @@ pub fn run(program: Program<'_>, call: &[u8], forth: bool)
     let mut to = [0u8; WORD];
     let from = files::word(program.rt, 1, &mut from);
     let to = files::word(program.rt, 2, &mut to);
-    let end = turn(program, from, to, forth);
+    let end = turn(program, from, to, way);
     program.tell_lost(
         end,
         b": the output could not be written; look at the second file to see whether it was converted\n",

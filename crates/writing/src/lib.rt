@@ -43,7 +43,7 @@ fn send_rows(rt: &HostRuntime, out: Output, sheet: &[u8], rows: u32) -> Output
 fn write(program: Program<'_>, sheet: &[u8]) -> Output
     ensures { Wrote (output_of program.entry.output) (written_text sheet.now) result }
 {
-    if ledger::total_refusal(sheet) != 0 {
+    if ledger::total_refusal(sheet).is_err() {
         program.tell(b": the file is no sheet; make one with legsheet FILE\n");
         return loading::refused_7(program.rt, program.begin());
     }

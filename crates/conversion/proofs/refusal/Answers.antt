@@ -1,48 +1,79 @@
 -- Test by test, in their order.
-use mathlib.Core.Path.{◌∙◌, sym}
-use native.Mathlib.Omega.{arith}
-use Rattle.conversion.specs.Conversion.{says_before}
+use Rattle.std.proofs.Common.{◌≡◌, ◌<◌, ◌≤◌, ◌∙◌, refl, sym, ap, arith, cond, ltb, Some, None, true, false, ℕ, rules, tests}
+use Rattle.std.proofs.lemmas.Iterator.{first_from_Range}
 use Rattle.ledger.specs.laws.Refusals.{sheet_of_few}
+use Rattle.ledger.specs.Calls.{is_sheet_of, rows_in}
+use Rattle.inspection.specs.laws.First.{found, found_some, found_none}
+use Rattle.conversion.specs.declared.Way.TheVariants.{Forth, Back}
+use Rattle.conversion.specs.Conversion.{is_forth, says_before, first_of, rejected, oftener, stopped_of}
 use Rattle.conversion.proofs.Refused.{said, stop_7, stop_10, stop-counts, stop-none, stop_17, stop_0}
 use Rattle.conversion.proofs.refusal.Goals as goal
+use Rattle.conversion.proofs.refusal.Goals.{After-find-damaged, After-find-often}
+
+-- the first row that the row tests reject, and the first that was driven other than once
+damaged : (c : After-find-damaged) → let f = first_of (rejected c.args.sheet.now) c.rows_in-rows.result in c.find-damaged.result ≡ cond (ltb f c.rows_in-rows.result) (Some f) None
+damaged c =
+    let test = rejected c.args.sheet.now in
+    found test _ _ (first_from_Range _ _ _ c.find-damaged.result (λ i. test i ≡ true) (λ i. test i ≡ false) c.find-damaged.ensures.ran (λ x q k. search (rules, tests)) (λ x q k. search (rules, tests)))
+
+often : (c : After-find-often) → let f = first_of (oftener c.args.sheet.now) c.rows_in-rows.result in c.find-often.result ≡ cond (ltb f c.rows_in-rows.result) (Some f) None
+often c =
+    let test = oftener c.args.sheet.now in
+    found test _ _ (first_from_Range _ _ _ c.find-often.result (λ i. test i ≡ true) (λ i. test i ≡ false) c.find-often.ensures.ran (λ x q k. search (rules, tests)) (λ x q k. search (rules, tests)))
 
 pub returns-then-not-says : goal.returns-then-not-says
+unfolding stopped_of
 returns-then-not-says c =
     let a = c.args in
-    stop_7 a.forth a.sheet.now (said a.sheet.now a.forth _ _ c.says_before.ensures c.says.ensures ∙ c.if-not-says.true)
+    stop_7 (is_forth a.way) a.sheet.now (said a.sheet.now (is_forth a.way) _ _ c.word_before.ensures c.says.ensures ∙ c.if-not-says.true)
 
 pub overflow_cast-rows : goal.overflow_cast-rows
 overflow_cast-rows c =
     let a = c.args in
-    let h = said a.sheet.now a.forth _ _ c.says_before.ensures c.says.ensures ∙ c.if-not-says.false in
-    omega (arith, c.rows_in-rows.ensures, sheet_of_few (says_before a.forth) a.sheet.now h)
+    let h = said a.sheet.now (is_forth a.way) _ _ c.word_before.ensures c.says.ensures ∙ c.if-not-says.false in
+    omega (arith, c.rows_in-rows.ensures, sheet_of_few (says_before (is_forth a.way)) a.sheet.now h)
 
-pub returns-then-damaged-rows : goal.returns-then-damaged-rows
-returns-then-damaged-rows c =
+pub returns-in-Some : goal.returns-in-Some
+unfolding stopped_of
+returns-in-Some c =
     let a = c.args in
-    let h = said a.sheet.now a.forth _ _ c.says_before.ensures c.says.ensures ∙ c.if-not-says.false in
-    stop_10 a.forth a.sheet.now h _ _ c.rows_in-rows.ensures c.first_row-damaged.ensures c.if-damaged-rows.true
+    let h = said a.sheet.now (is_forth a.way) _ _ c.word_before.ensures c.says.ensures ∙ c.if-not-says.false in
+    let k = found_some _ _ _ (damaged (goal.at.returns-in-Some c).After-find-damaged) _ c.in-Some.is in
+    stop_10 (is_forth a.way) a.sheet.now h _ _ c.rows_in-rows.ensures k.0 (rw k.0 k.1)
 
 pub returns-then-is_uncounted : goal.returns-then-is_uncounted
+unfolding stopped_of
 returns-then-is_uncounted c =
     let a = c.args in
-    let h = said a.sheet.now a.forth _ _ c.says_before.ensures c.says.ensures ∙ c.if-not-says.false in
-    stop-counts a.forth a.sheet.now h _ _ c.rows_in-rows.ensures c.first_row-damaged.ensures c.if-damaged-rows.false (sym c.is_uncounted.ensures ∙ c.if-is_uncounted.true)
+    let h = said a.sheet.now (is_forth a.way) _ _ c.word_before.ensures c.says.ensures ∙ c.if-not-says.false in
+    let k = found_none _ _ _ (damaged (goal.at.returns-then-is_uncounted c).After-find-damaged) c.in_default.is in
+    stop-counts (is_forth a.way) a.sheet.now h _ _ c.rows_in-rows.ensures refl k (sym c.is_uncounted.ensures ∙ c.if-is_uncounted.true)
 
-pub returns-then-forth : goal.returns-then-forth
-returns-then-forth c =
+pub returns-then-eq : goal.returns-then-eq
+unfolding stopped_of is_forth
+returns-then-eq c =
     let a = c.args in
-    let h = said a.sheet.now a.forth _ _ c.says_before.ensures c.says.ensures ∙ c.if-not-says.false in
-    stop-none a.forth a.sheet.now h _ _ c.rows_in-rows.ensures c.first_row-damaged.ensures c.if-damaged-rows.false (sym c.is_uncounted.ensures ∙ c.if-is_uncounted.false) c.if-forth.true
+    let h = said a.sheet.now (is_forth a.way) _ _ c.word_before.ensures c.says.ensures ∙ c.if-not-says.false in
+    let k = found_none _ _ _ (damaged (goal.at.returns-then-eq c).After-find-damaged) c.in_default.is in
+    let f : a.way ≡ Forth = search rules in
+    stop-none (is_forth a.way) a.sheet.now h _ _ c.rows_in-rows.ensures refl k (sym c.is_uncounted.ensures ∙ c.if-is_uncounted.false) (ap is_forth f)
 
-pub returns-then-often-rows : goal.returns-then-often-rows
-returns-then-often-rows c =
+pub returns-in-Some-often : goal.returns-in-Some-often
+unfolding stopped_of is_forth
+returns-in-Some-often c =
     let a = c.args in
-    let h = said a.sheet.now a.forth _ _ c.says_before.ensures c.says.ensures ∙ c.if-not-says.false in
-    stop_17 a.forth a.sheet.now h _ _ c.rows_in-rows.ensures c.first_row-damaged.ensures c.if-damaged-rows.false (sym c.is_uncounted.ensures ∙ c.if-is_uncounted.false) c.if-forth.false _ c.first_row-often.ensures c.if-often-rows.true
+    let h = said a.sheet.now (is_forth a.way) _ _ c.word_before.ensures c.says.ensures ∙ c.if-not-says.false in
+    let k = found_none _ _ _ (damaged (goal.at.returns-in-Some-often c).After-find-damaged) c.in_default.is in
+    let o = found_some _ _ _ (often (goal.at.returns-in-Some-often c).After-find-often) _ c.in-Some-often.is in
+    let f : a.way ≡ Back = search rules in
+    stop_17 (is_forth a.way) a.sheet.now h _ _ c.rows_in-rows.ensures refl k (sym c.is_uncounted.ensures ∙ c.if-is_uncounted.false) (ap is_forth f) _ o.0 (rw o.0 o.1)
 
-pub returns : goal.returns
-returns c =
+pub returns-in-None : goal.returns-in-None
+unfolding stopped_of is_forth
+returns-in-None c =
     let a = c.args in
-    let h = said a.sheet.now a.forth _ _ c.says_before.ensures c.says.ensures ∙ c.if-not-says.false in
-    stop_0 a.forth a.sheet.now h _ _ c.rows_in-rows.ensures c.first_row-damaged.ensures c.if-damaged-rows.false (sym c.is_uncounted.ensures ∙ c.if-is_uncounted.false) c.if-forth.false _ c.first_row-often.ensures c.if-often-rows.false
+    let h = said a.sheet.now (is_forth a.way) _ _ c.word_before.ensures c.says.ensures ∙ c.if-not-says.false in
+    let k = found_none _ _ _ (damaged (goal.at.returns-in-None c).After-find-damaged) c.in_default.is in
+    let o = found_none _ _ _ (often (goal.at.returns-in-None c).After-find-often) c.in-None.is in
+    let f : a.way ≡ Back = search rules in
+    stop_0 (is_forth a.way) a.sheet.now h _ _ c.rows_in-rows.ensures refl k (sym c.is_uncounted.ensures ∙ c.if-is_uncounted.false) (ap is_forth f) _ refl o

@@ -1,25 +1,21 @@
 -- What is done and what is left is the same at each turn.
-use mathlib.Core.Path.{refl, ◌∙◌}
-use Prim.Native.Nat.{◌≤◌, ◌<◌}
+use Rattle.std.proofs.Common.{◌≤◌, ◌<◌, refl, ◌∙◌, arith, length}
 use native.Mathlib.Nat.{sub-zero}
-use native.Mathlib.Omega.{arith}
-use lib.ListN.{length}
 use Rattle.ledger.specs.Sheet.{row_place}
-use Rattle.conversion.proofs.Turning.{turned-length, turned_next, turned-last}
+use Rattle.conversion.specs.Conversion.{is_forth}
+use Rattle.conversion.proofs.Turning.{turned_next, turned-last}
 use Rattle.conversion.proofs.turn_rows.Goals as goal
 
-pub loop-done-init : goal.loop-done-init
-loop-done-init c = (omega arith, refl, rw sub-zero)
+pub loop-row-init : goal.loop-row-init
+loop-row-init c = rw sub-zero
 
-pub loop-done-preserved : goal.loop-done-preserved
-loop-done-preserved c =
-    let l = c.loop-done in
-    let n : l.done < c.args.rows = c.loop-done-test.true in
+pub loop-row-preserved : goal.loop-row-preserved
+loop-row-preserved c =
+    let l = c.loop-row in
     let r : row_place c.args.rows ≤ length l.sheet = omega arith in
-    let t = turned-length c.args.forth c.args.rows l.done l.sheet n r in
-    (omega arith, rw c.turn_part.ensures (t ∙ l.invariant.1), rw c.turn_part.ensures (turned_next c.args.forth c.args.rows l.done l.sheet n r ∙ l.invariant.2))
+    rw c.turn_part.ensures (turned_next (is_forth c.args.way) c.args.rows l.row l.sheet c.loop-row-test.true r ∙ l.invariant)
 
 pub returns : goal.returns
 returns c =
-    let l = c.loop-done in
-    turned-last c.args.forth c.args.rows l.done l.sheet c.loop-done-test.false ∙ l.invariant.2
+    let l = c.loop-row in
+    turned-last (is_forth c.args.way) c.args.rows l.row l.sheet c.loop-row-test.false ∙ l.invariant

@@ -1,14 +1,8 @@
 -- What is done and what is left is the same at each turn.
-use mathlib.Core.Path.{◌≡◌}
-use mathlib.Core.List.{◌++◌}
-use Prim.Native.Nat.{◌-◌, ◌≤◌}
-use lib.ListN.{length, take, drop}
-use Rattle.conversion.specs.Conversion.{turned_rows}
+use Rattle.std.proofs.Common.{◌≡◌, ◌++◌, take, drop}
+use Rattle.conversion.specs.Conversion.{is_forth, turned_rows}
 use Rattle.conversion.proofs.Turning.{Left}
 use Rattle.conversion.proofs.turn_rows.Given as goal
 
-abbrev pub invariant-loop-done : goal.invariant-loop-done
-invariant-loop-done l = (l.done ≤ l.rows) × (length l.sheet ≡ length l.initial.sheet) × (Left l.forth l.rows l.done l.sheet ≡ take 32 l.initial.sheet ++ turned_rows l.forth l.rows (drop 32 l.initial.sheet))
-
-abbrev pub decreases-loop-done : goal.decreases-loop-done
-decreases-loop-done l = l.rows - l.done
+abbrev pub invariant-loop-row : goal.invariant-loop-row
+invariant-loop-row l = Left (is_forth l.way) l.rows l.row l.sheet ≡ take 32 l.initial.sheet ++ turned_rows (is_forth l.way) l.rows (drop 32 l.initial.sheet)

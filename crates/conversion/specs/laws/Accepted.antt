@@ -9,8 +9,7 @@ use native.Mathlib.Omega.{arith}
 use Rattle.std.proofs.Math.Dec.{ltb}
 use Rattle.ledger.specs.Calls.{rows_in, is_sheet_of}
 use Rattle.inspection.specs.Rows.{first_from}
-use Rattle.conversion.specs.declared.Stop.{Stop}
-use Rattle.conversion.specs.Conversion.{says_before, first_of, rejected, uncounted, oftener, stopped, stop_of, turned_sheet, converted_of}
+use Rattle.conversion.specs.Conversion.{Stopped, says_before, first_of, rejected, uncounted, oftener, stopped, stop_of, turned_sheet, converted_of}
 
 -- ---- a test that holds at none of n places
 abbrev pub Nowhere : (ℕ → Bool) → ℕ → Type 0
@@ -103,9 +102,9 @@ module _ (forth : Bool) (s : List ℕ) where
 -- the row that 17 names is the first that is not blank and was driven other than once
 pub first_named : (s : List ℕ) (i : ℕ) → stop_of false s ≡ stopped 17 i → (oftener s i ≡ true) × Nowhere (oftener s) i
 unfolding stop_of
-first_named s i h = go (is_sheet_of (says_before false) s) (ltb (first_of (rejected s) (rows_in s)) (rows_in s)) (uncounted s) (ltb (first_of (oftener s) (rows_in s)) (rows_in s)) refl (ap (λ (q : Stop). q.refusal) h) (ap (λ (q : Stop). q.row) h)
+first_named s i h = go (is_sheet_of (says_before false) s) (ltb (first_of (rejected s) (rows_in s)) (rows_in s)) (uncounted s) (ltb (first_of (oftener s) (rows_in s)) (rows_in s)) refl (ap (λ (q : Stopped). q.refusal) h) (ap (λ (q : Stopped). q.row) h)
   where
-    answer : (p d u o : Bool) → Stop
+    answer : (p d u o : Bool) → Stopped
     answer p d u o = cond (not p) (stopped 7 0) (cond d (stopped 10 (first_of (rejected s) (rows_in s))) (cond u (stopped 10 (rows_in s)) (cond o (stopped 17 (first_of (oftener s) (rows_in s))) (stopped 0 0))))
 
     go : (p d u o : Bool) → ltb (first_of (oftener s) (rows_in s)) (rows_in s) ≡ o → (answer p d u o).refusal ≡ 17 → (answer p d u o).row ≡ i → (oftener s i ≡ true) × Nowhere (oftener s) i

@@ -21,8 +21,7 @@ use Rattle.laws.specs.laws.Splices.{drop_past}
 use Rattle.ledger.specs.laws.Fields.{length-bytes, number-bytes}
 use Rattle.demands.specs.laws.Numbers.{rows_of}
 use Rattle.ledger.specs.laws.Refusals.{length-row, sheet_of_few, sheet_of_length, says}
-use Rattle.conversion.specs.declared.Stop.{Stop}
-use Rattle.conversion.specs.Conversion.{says_before, says_after, once, turned, turned_rows, turned_sheet, rejected, uncounted, oftener, stopped, stop_of, converted_of}
+use Rattle.conversion.specs.Conversion.{Stopped, says_before, says_after, once, turned, turned_rows, turned_sheet, rejected, uncounted, oftener, stopped, stop_of, converted_of}
 use Rattle.conversion.specs.laws.Rows.{held, length-turned, class-turned, sound-turned, times-turned, turned_back}
 use Rattle.conversion.specs.laws.Accepted.{Accepted, accepted, enough, converted_is}
 
@@ -356,6 +355,6 @@ module _ (forth : Bool) (s : List ℕ) (z : (stop_of forth s).refusal ≡ 0) whe
 module _ (forth : Bool) (s : List ℕ) (z : (stop_of forth s).refusal ≡ 0) (f : (i : ℕ) → i < rows_in s → times_in (row_in s i) ≡ held forth (row_in s i)) where
   pub there_and_back : converted_of (not forth) (converted_of forth s) ≡ s
   there_and_back =
-      converted_is (not forth) (converted_of forth s) (ap (λ (q : Stop). q.refusal) (taken_back forth s z))
+      converted_is (not forth) (converted_of forth s) (ap (λ (q : Stopped). q.refusal) (taken_back forth s z))
       ∙ ap (turned_sheet (not forth)) (converted_is forth s z)
       ∙ turned_twice forth s (accepted forth s z).sheet f

@@ -4,7 +4,7 @@ use Rattle.std.specs.List.{filter, range_with_len}
 use Rattle.std.proofs.lemmas.Iterator.{YieldsList-from_range}
 use Rattle.std.proofs.lemmas.Iterator.Consumers.{YieldsList-from_filter, count_from_yields_List}
 use Rattle.std.proofs.lemmas.List.FromFn.{filter_of_map_range_with_len_more}
-use Rattle.ledger.specs.laws.Refusals.{sheet_few, no_sheet, a_sheet}
+use Rattle.ledger.specs.laws.Refusals.{sheet_few, sheet_refused, sheet_taken}
 use Rattle.difference.specs.Difference.{agree, changes, rows_of}
 use Rattle.difference.proofs.changed_rows.Goals as goal
 
@@ -23,19 +23,19 @@ unfolding changes
 changes_are s t zero = refl
 changes_are s t (suc n) = ap length (filter-range_more (λ i. not (agree s t i)) n) ∙ one_more (agree s t n) (changes s t n) n _ (changes_are s t n)
 
-pub returns-then-total_refusal-ne0 : goal.returns-then-total_refusal-ne0
+pub returns-then-is_err : goal.returns-then-is_err
 unfolding rows_of changes
-returns-then-total_refusal-ne0 c = let b = c.total_refusal in rw (no_sheet _ _ b.ensures c.if-total_refusal-ne0.true) refl
+returns-then-is_err c = let b = c.total_refusal in rw (sheet_refused _ _ b.ensures (sym c.if-is_err.ensures.value)) refl
 
 pub overflow_cast-rows : goal.overflow_cast-rows
-overflow_cast-rows c = omega (arith, c.rows_in-rows.ensures, sheet_few _ (a_sheet _ _ c.total_refusal.ensures c.if-total_refusal-ne0.false))
+overflow_cast-rows c = omega (arith, c.rows_in-rows.ensures, sheet_few _ (sheet_taken _ _ c.total_refusal.ensures (sym c.if-is_err.ensures.value)))
 
 pub returns : goal.returns
 unfolding rows_of
 returns c =
     let s = c.args.old.now in
     let t = c.args.new.now in
-    rw (a_sheet _ _ c.total_refusal.ensures c.if-total_refusal-ne0.false)
+    rw (sheet_taken _ _ c.total_refusal.ensures (sym c.if-is_err.ensures.value))
     (count_from_yields_List c.filter.result _ c.count.ensures.ran (YieldsList-from_filter _ (λ i. not (agree s t i)) (YieldsList-from_range 0 c.rows_in-rows.result c.rows_in-rows.result (cc) (omega arith)) c.filter.ensures.closure (λ x b q k. search (rules, tests)))
     ∙ changes_are s t c.rows_in-rows.result
     ∙ ap (changes s t) c.rows_in-rows.ensures)

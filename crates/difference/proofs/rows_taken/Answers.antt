@@ -1,12 +1,14 @@
--- Found before the end, or not.
-use Rattle.std.proofs.Common.{refl, sym, lt-ltb, le-ltb}
+-- A row is found, or none.
+use Rattle.std.proofs.Common.{refl, ap, Err}
+use Rattle.inspection.specs.laws.Rejected.{row_rejected, none_rejected}
+use Rattle.difference.specs.declared.Stop.TheVariants.{Damaged}
 use Rattle.difference.specs.Difference.{rejected_of}
 use Rattle.difference.proofs.rows_taken.Goals as goal
 
-pub returns-then-row-rows_in : goal.returns-then-row-rows_in
+pub returns-in-Some : goal.returns-in-Some
 unfolding rejected_of
-returns-then-row-rows_in c = rw (sym c.first_rejected-row.ensures, sym c.rows_in.ensures, lt-ltb _ _ c.if-row-rows_in.true) refl
+returns-in-Some c = let f = row_rejected c.args.sheet.now _ c.first_rejected.ensures _ c.in-Some.is in rw (f.1, f.0) refl
 
-pub returns : goal.returns
+pub returns-in-None : goal.returns-in-None
 unfolding rejected_of
-returns c = rw (sym c.first_rejected-row.ensures, sym c.rows_in.ensures, le-ltb _ _ c.if-row-rows_in.false) refl
+returns-in-None c = rw (none_rejected c.args.sheet.now _ c.first_rejected.ensures c.requires c.in-None.is) refl

@@ -28,7 +28,8 @@ returns c =
     let line = c.part-line.ensures in
     let h = c.line_halt-h.ensures ∙ ap (line_halt (a.i + 2)) line in
     let e = c.entry.ensures ∙ ap entry_of line in
-    let q = c.edit-refusal.ensures in
+    let q = c.number-refusal.ensures ∙ c.edit.ensures.0 in
+    let new = c.edit.ensures.1 in
     rw (lt-leb _ _ c.if-text-at.false)
     (rw (← h, eq-eqb _ 0 c.if-h-ne0.false)
-    (ap₂ came (q.1 ∙ ap (edit_of a.sheet.now a.i) e) (c.halted-2.ensures ∙ ap (λ (k : ℕ). halt_at k (a.i + 2) 0) (q.0 ∙ ap (λ (x : Entry). edit_refusal a.sheet.now a.i x.function) e))))
+    (ap₂ came (new ∙ ap (edit_of a.sheet.now a.i) e) (c.halted-2.ensures ∙ ap (λ (k : ℕ). halt_at k (a.i + 2) 0) (q ∙ ap (λ (x : Entry). edit_refusal a.sheet.now a.i x.function) e))))

@@ -21,9 +21,10 @@ pub returns-then-refusal-ne0 : goal.returns-then-refusal-ne0
 unfolding text_into
 returns-then-refusal-ne0 c =
     let a = c.args in
-    let q = c.make_blank-refusal.ensures in
-    let bad : blank_refusal a.sheet.now c.in-Some.n ≡ 0 → ⊥ = λ e. c.if-refusal-ne0.true (q.0 ∙ e) in
-    ap₂ came (q.1 ∙ left_alone a.text.now a.sheet.now c.in-Some.n bad) (c.halted-then-refusal-ne0.ensures ∙ ap (λ (k : ℕ). halt_at k 0 0) q.0)
+    let q = c.number-refusal.ensures ∙ c.make_blank.ensures.0 in
+    let new = c.make_blank.ensures.1 in
+    let bad : blank_refusal a.sheet.now c.in-Some.n ≡ 0 → ⊥ = λ e. c.if-refusal-ne0.true (q ∙ e) in
+    ap₂ came (new ∙ left_alone a.text.now a.sheet.now c.in-Some.n bad) (c.halted-then-refusal-ne0.ensures ∙ ap (λ (k : ℕ). halt_at k 0 0) q)
     ∙ count_refused a.text.now a.sheet.now _ c.in-Some.n (sym c.in-Some.is ∙ c.rows.ensures) bad
 
 pub overflow_cast-n-2 : goal.overflow_cast-n-2
@@ -31,14 +32,16 @@ overflow_cast-n-2 c = omega (arith, cut_most _ c.in-Some.n (sym c.in-Some.is ∙
 
 pub read_rows-requires : goal.read_rows-requires
 read_rows-requires c =
-    let q = c.make_blank-refusal.ensures in
-    (makeable c.args.sheet.now _ (sym q.0 ∙ c.if-refusal-ne0.false)).0
+    let q = c.number-refusal.ensures ∙ c.make_blank.ensures.0 in
+    let new = c.make_blank.ensures.1 in
+    (makeable c.args.sheet.now _ (sym q ∙ c.if-refusal-ne0.false)).0
 
 pub returns : goal.returns
 unfolding text_into
 returns c =
     let a = c.args in
-    let q = c.make_blank-refusal.ensures in
-    let good = sym q.0 ∙ c.if-refusal-ne0.false in
-    rw (c.next.ensures, q.1) at c.read_rows.ensures
+    let q = c.number-refusal.ensures ∙ c.make_blank.ensures.0 in
+    let new = c.make_blank.ensures.1 in
+    let good = sym q ∙ c.if-refusal-ne0.false in
+    rw (c.next.ensures, new) at c.read_rows.ensures
     ∙ count-taken a.text.now a.sheet.now _ c.in-Some.n (sym c.in-Some.is ∙ c.rows.ensures) good

@@ -1,32 +1,35 @@
 -- 0 where the row cannot be read; else by its bytes and its sheet's first word.
-use mathlib.Core.Path.{◌∙◌}
-use mathlib.Core.Bool.{cond}
-use Prim.Native.Nat.{ℕ}
-use lib.Dec.{eqb}
+use Rattle.std.proofs.Common.{sym, ap, ◌∙◌}
+use borrow.Author.Tests.{eq-eqb, ne_eqb}
 use Rattle.ledger.specs.Sheet.{function_in, times_in}
 use Rattle.ledger.specs.Calls.{times_of}
-use Rattle.ledger.proofs.Answered.{unreadable, row_read, read_sheet, read-room, read_length}
+use Rattle.ledger.proofs.Answered.{unreadable, row_read, read_sheet, read-room}
 use Rattle.ledger.proofs.row_times.Goals as goal
 
-pub returns-then-row_refusal-ne0 : goal.returns-then-row_refusal-ne0
+pub returns-then-is_err : goal.returns-then-is_err
 unfolding times_of
-returns-then-row_refusal-ne0 c = let q = c.row_refusal in rw (unreadable _ _ q.result q.ensures c.if-row_refusal-ne0.true)
+returns-then-is_err c = let q = c.row_refusal in rw (unreadable _ _ q.result q.ensures (sym c.if-is_err.ensures.value))
 
-pub row_part-requires : goal.row_part-requires
-row_part-requires c = let q = c.row_refusal in read-room _ _ q.result q.ensures c.if-row_refusal-ne0.false
+pub row_in-bytes-requires : goal.row_in-bytes-requires
+row_in-bytes-requires c = let q = c.row_refusal in read-room _ _ q.result q.ensures (sym c.if-is_err.ensures.value)
 
 pub keeps_times-requires : goal.keeps_times-requires
-keeps_times-requires c = let q = c.row_refusal in read_sheet _ _ q.result q.ensures c.if-row_refusal-ne0.false
+keeps_times-requires c = let q = c.row_refusal in read_sheet _ _ q.result q.ensures (sym c.if-is_err.ensures.value)
 
-pub driven-requires : goal.driven-requires
-driven-requires c = let q = c.row_refusal in read_length _ _ q.result q.ensures c.if-row_refusal-ne0.false _ c.row_part.ensures
-
-pub returns : goal.returns
+pub returns-then-keeps_times : goal.returns-then-keeps_times
 unfolding times_of
-returns c =
+returns-then-keeps_times c =
     let q = c.row_refusal in
-    let w = c.row_part.ensures in
-    let never : ℕ = 0 in
-    let once : ℕ = 1 in
-    rw (row_read _ _ q.result q.ensures c.if-row_refusal-ne0.false)
-    (c.driven.ensures ∙ (λ i. cond (c.keeps_times.ensures i) (times_in (w i)) (cond (eqb (function_in (w i)) 0) never once)))
+    rw (row_read _ _ q.result q.ensures (sym c.if-is_err.ensures.value), sym c.keeps_times.ensures ∙ c.if-keeps_times.true) (c.times.ensures ∙ ap times_in c.row_in-bytes.ensures)
+
+pub returns-then-bytes-eq0 : goal.returns-then-bytes-eq0
+unfolding times_of function_in
+returns-then-bytes-eq0 c =
+    let q = c.row_refusal in
+    rw (row_read _ _ q.result q.ensures (sym c.if-is_err.ensures.value), sym c.keeps_times.ensures ∙ c.if-keeps_times.false, ← c.row_in-bytes.ensures, eq-eqb _ _ c.if-bytes-eq0.true)
+
+pub returns-else-bytes-eq0 : goal.returns-else-bytes-eq0
+unfolding times_of function_in
+returns-else-bytes-eq0 c =
+    let q = c.row_refusal in
+    rw (row_read _ _ q.result q.ensures (sym c.if-is_err.ensures.value), sym c.keeps_times.ensures ∙ c.if-keeps_times.false, ← c.row_in-bytes.ensures, ne_eqb _ _ c.if-bytes-eq0.false)

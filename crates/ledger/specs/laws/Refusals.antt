@@ -1,17 +1,64 @@
 -- What a call that is not refused tells of the sheet. Assumes nothing.
-use Rattle.std.specs.Prelude.{◌≡◌, Bool, cond, not, ◌&&◌, ◌||◌, List, ℕ, ◌+◌, ◌-◌, ◌≤◌, ◌<◌, leb, ltb, eqb, length, take, drop, get_or, set, Float}
+use Rattle.std.specs.Prelude.{◌≡◌, Bool, cond, not, ◌&&◌, ◌||◌, List, ℕ, ◌+◌, ◌-◌, ◌≤◌, ◌<◌, leb, ltb, eqb, length, take, drop, get_or, set, Float, Result, Ok, Err, is_err}
 use Rattle.std.proofs.Math.Path.{refl}
 use Rattle.std.proofs.Common.{ap, ◌∙◌, sym, pos_of_ne-zero, arith, length-append, length-drop, length-set, length-take-le}
 use Rattle.std.proofs.Math.Bool.{true, false}
 use Rattle.std.proofs.lemmas.Bool.{false≢true}
-use borrow.Author.Tests.{eqb-true, eqb-false, leb-true, leb-false, ltb-false, not-true}
+use borrow.Author.Tests.{ne_eqb, eqb-true, eqb-false, leb-true, leb-false, ltb-false, not-true}
 use Rattle.std.specs.Float.{nan, inf, fin}
 use Rattle.std.specs.Float.Ieee.{is_nan}
-use Rattle.answer.specs.Numbers.{last, stored}
-use Rattle.ledger.specs.Bytes.{number, read}
+use Rattle.answer.specs.declared.Refusal.{Refusal}
+use Rattle.answer.specs.declared.Refusal.TheVariants.{NotANumber, AboveOne, Beyond, CharacteristicOne, Unmet, NotFinite, NotASheet, NoSuchRow, NoSuchFunction, Damaged, TooManyRows, OutOfRange, Unequal, DrivenOften, Malformed, Withdrawn}
+use Rattle.answer.specs.Answer.{refusal_of}
+use Rattle.answer.specs.Numbers.{number, last, stored}
+use Rattle.ledger.specs.Bytes.{number as bytes_number, read}
 use Rattle.ledger.specs.laws.Fields.{length-read, length-bytes, length_fields}
 use Rattle.ledger.specs.Sheet.{Row, withdrawn, without_times, with_times, most_rows, row_place, size_for, entries, function_in, refusal_in, first_in, sound_of, sound, kind_of, class_of, totals}
 use Rattle.ledger.specs.Calls.{Sized, rows_in, row_in, counts_in, equal, is_sheet_of, is_sheet, plus, miscounted, damaged, row_rungs, function_rungs, rungs, recount, total_refusal, row_refusal, place_refusal, blank_refusal}
+
+-- ---- a result and its number
+
+-- no refusal has the number 0
+pub numbered : (q : Refusal) → number q ≡ 0 → ⊥
+numbered NotANumber e = absurd (omega arith)
+numbered AboveOne e = absurd (omega arith)
+numbered Beyond e = absurd (omega arith)
+numbered CharacteristicOne e = absurd (omega arith)
+numbered Unmet e = absurd (omega arith)
+numbered NotFinite e = absurd (omega arith)
+numbered NotASheet e = absurd (omega arith)
+numbered NoSuchRow e = absurd (omega arith)
+numbered NoSuchFunction e = absurd (omega arith)
+numbered Damaged e = absurd (omega arith)
+numbered TooManyRows e = absurd (omega arith)
+numbered OutOfRange e = absurd (omega arith)
+numbered Unequal e = absurd (omega arith)
+numbered DrivenOften e = absurd (omega arith)
+numbered Malformed e = absurd (omega arith)
+numbered Withdrawn e = absurd (omega arith)
+
+module _ {A : Type 0} (r : Result A Refusal) (q : ℕ) (e : refusal_of r ≡ q) where
+  pub refused : is_err r ≡ true → q ≡ 0 → ⊥
+  unfolding refusal_of
+  refused h z = go r (e ∙ z) h
+    where
+      go : (r : Result A Refusal) → refusal_of r ≡ 0 → is_err r ≡ true → ⊥
+      go (Ok a) d h = false≢true h
+      go (Err n) d h = numbered n d
+
+  pub taken : is_err r ≡ false → q ≡ 0
+  unfolding refusal_of
+  taken h = go r e h
+    where
+      go : (r : Result A Refusal) → refusal_of r ≡ q → is_err r ≡ false → q ≡ 0
+      go (Ok a) d h = sym d
+      go (Err n) d h = absurd (false≢true (sym h))
+
+-- an error is a number that is not 0
+pub err_number : {A : Type 0} (r : Result A Refusal) → is_err r ≡ not (eqb (refusal_of r) 0)
+unfolding refusal_of
+err_number (Ok a) = refl
+err_number (Err q) = sym (ap not (ne_eqb (number q) 0 (numbered q)))
 
 -- ---- tests joined
 and_3 : (a b c : Bool) → (a && (b && c)) ≡ true → (a ≡ true) × (b ≡ true) × (c ≡ true)
@@ -68,7 +115,7 @@ module _ (k : ℕ) (s : List ℕ) (h : is_sheet_of k s ≡ true) where
   pub sheet_of_length : Sized s
   sheet_of_length = eqb-true _ _ tests.1
 
-  pub says : number (take 4 s) ≡ k
+  pub says : bytes_number (take 4 s) ≡ k
   unfolding equal read entries
   says = eqb-true _ _ (and_first _ _ tests.2)
 
@@ -203,6 +250,14 @@ module _ (s : List ℕ) (q : ℕ) (e : q ≡ total_refusal s) where
   pub a_sheet : q ≡ 0 → is_sheet s ≡ true
   unfolding total_refusal
   a_sheet h = (past_7 (is_sheet s) 0 (sym e ∙ h)).0
+
+-- and so does the call's result
+module _ (s : List ℕ) (r : Result (Unit {0}) Refusal) (e : refusal_of r ≡ total_refusal s) where
+  pub sheet_refused : is_err r ≡ true → is_sheet s ≡ false
+  sheet_refused h = no_sheet s _ e (refused r _ refl h)
+
+  pub sheet_taken : is_err r ≡ false → is_sheet s ≡ true
+  sheet_taken h = a_sheet s _ e (taken r _ refl h)
 
 pub makeable : (s : List ℕ) (r : ℕ) → blank_refusal s r ≡ 0 → (r ≤ most_rows) × (length s ≡ size_for r)
 unfolding blank_refusal

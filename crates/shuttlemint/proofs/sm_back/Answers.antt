@@ -1,7 +1,8 @@
 -- The number of `convert`, and its bytes.
-use mathlib.Core.Path.{ap}
-use Rattle.conversion.specs.declared.Stop.{Stop}
+use Rattle.std.proofs.Common.{ap, ◌∙◌}
+use Rattle.conversion.specs.Conversion.{Stopped, is_forth}
 use Rattle.shuttlemint.proofs.sm_back.Goals as goal
 
 pub returns : goal.returns
-returns c = let e = c.convert.ensures in (ap (λ (q : Stop). q.refusal) e.0, e.1)
+unfolding is_forth
+returns c = (c.stop_number.ensures ∙ ap (λ (q : Stopped). q.refusal) c.convert.ensures.0, c.convert.ensures.1)

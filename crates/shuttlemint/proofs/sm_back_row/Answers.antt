@@ -1,7 +1,8 @@
 -- The row of `refusal`.
-use mathlib.Core.Path.{ap}
-use Rattle.conversion.specs.declared.Stop.{Stop}
+use Rattle.std.proofs.Common.{ap, ◌∙◌}
+use Rattle.conversion.specs.Conversion.{Stopped, is_forth}
 use Rattle.shuttlemint.proofs.sm_back_row.Goals as goal
 
 pub returns : goal.returns
-returns c = ap (λ (q : Stop). q.row) c.refusal.ensures
+unfolding is_forth
+returns c = c.stop_row.ensures ∙ ap (λ (q : Stopped). q.row) c.refusal.ensures

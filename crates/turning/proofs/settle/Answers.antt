@@ -1,5 +1,9 @@
 -- Refused; not written; written.
-use Rattle.std.proofs.Common.{ℕ}
+use Rattle.std.proofs.Common.{◌≡◌, ℕ, refl}
+use Rattle.answer.specs.declared.Refusal.{Refusal}
+use Rattle.answer.specs.Numbers.{number}
+use Rattle.ledger.specs.laws.Refusals.{numbered}
+use Rattle.conversion.specs.Conversion.{is_forth, stopped, stopped_of}
 use Rattle.std.specs.Result.{is_ok}
 use Rattle.files.specs.declared.sending.Output.{Output}
 use Rattle.files.specs.Output.{Wrote}
@@ -13,33 +17,39 @@ rowed : (n : ℕ) {out end : Output} → Wrote out (number_line (ascii "rows ") 
 unfolding rows_line
 rowed n w = w
 
-pub returns-then-stop-ne0 : goal.returns-then-stop-ne0
-returns-then-stop-ne0 c =
+-- what is refused has a number that is not 0
+left : (q : Refusal) (r : ℕ) → (stopped (number q) r).refusal ≡ 0 → ⊥
+left q r = numbered q
+
+pub returns-in-Err : goal.returns-in-Err
+unfolding stopped_of
+returns-in-Err c =
     let a = c.args in
-    let s = c.convert-stop in
     let r = c.rows_in-rows in
-    settled_refused a.sheet.now a.to.now a.forth _ c.put_stop.result s.result r.result s.ensures.0 r.ensures c.if-stop-ne0.true (rw c.begin-out.ensures at c.put_stop.ensures)
+    let stop = c.in-Err.stop in
+    settled_refused a.sheet.now a.to.now (is_forth a.way) _ c.put_stop.result (stopped (number stop.refusal) stop.row) r.result c.in-Err.ensures.0 r.ensures (left stop.refusal stop.row) (rw c.begin-out.ensures at c.put_stop.ensures)
 
 pub save_sheet-requires : goal.save_sheet-requires
+unfolding stopped_of
 save_sheet-requires c =
     let a = c.args in
-    let s = c.convert-stop in
-    record { sheet = a.sheet.now; forth = a.forth; accepted = none_left a.sheet.now a.forth s.result s.ensures.0 c.if-stop-ne0.false; is = s.ensures.1 }
+    let f = is_forth a.way in
+    record { sheet = a.sheet.now; forth = f; accepted = none_left a.sheet.now f (stopped 0 0) c.in_default.ensures.0 refl; is = c.convert.ensures.1 }
 
 pub returns-then-is_err : goal.returns-then-is_err
+unfolding stopped_of
 returns-then-is_err c =
     let a = c.args in
-    let s = c.convert-stop in
     let r = c.rows_in-rows in
     let w = c.save_sheet in
-    settled_unwritten a.sheet.now a.to.now a.forth _ c.cannot_write.result s.result r.result s.ensures.0 r.ensures c.if-stop-ne0.false _ s.ensures.1 (is_ok w.result) w.ensures
+    settled_unwritten a.sheet.now a.to.now (is_forth a.way) _ c.cannot_write.result (stopped 0 0) r.result c.in_default.ensures.0 r.ensures refl _ c.convert.ensures.1 (is_ok w.result) w.ensures
     c.if-is_err.ensures.negation (rw c.begin-out.ensures at c.cannot_write.ensures)
 
 pub returns : goal.returns
+unfolding stopped_of
 returns c =
     let a = c.args in
-    let s = c.convert-stop in
     let r = c.rows_in-rows in
     let w = c.save_sheet in
-    settled_written a.sheet.now a.to.now a.forth _ c.put_number.result s.result r.result s.ensures.0 r.ensures c.if-stop-ne0.false _ s.ensures.1 (is_ok w.result) w.ensures
+    settled_written a.sheet.now a.to.now (is_forth a.way) _ c.put_number.result (stopped 0 0) r.result c.in_default.ensures.0 r.ensures refl _ c.convert.ensures.1 (is_ok w.result) w.ensures
     c.if-is_err.ensures.negation (rowed r.result (rw c.begin-out.ensures at c.put_number.ensures))

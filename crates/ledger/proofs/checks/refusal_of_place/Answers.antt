@@ -1,12 +1,10 @@
--- Test by test; what the first of them is told by `asked`.
-use mathlib.Core.Path.{◌≡◌, ap, ◌∙◌, sym}
-use mathlib.Core.Bool.{Bool, true}
-use mathlib.Core.List.{List}
-use Prim.Native.Nat.{ℕ, ◌<◌}
-use Rattle.ledger.specs.Bytes.{fields}
-use Rattle.ledger.specs.Sheet.{with_times}
-use Rattle.ledger.specs.Calls.{rows_in, is_sheet_of, row_rungs}
-use Rattle.ledger.specs.laws.Refusals.{past_row, sheet_of_length}
+-- Test by test, in their order.
+use Rattle.std.proofs.Common.{◌≡◌, Bool, true, sym, ap, refl, ◌∙◌, List, ℕ, ◌<◌, Err}
+use Rattle.std.proofs.lemmas.Result.{err_from_is_err_and}
+use Rattle.answer.specs.Answer.{refusal_of}
+use Rattle.ledger.specs.Sheet.{with_times, function_in}
+use Rattle.ledger.specs.Calls.{rows_in, is_sheet_of, row_rungs, function_rungs}
+use Rattle.ledger.specs.laws.Refusals.{refused, past_row, sheet_of_length}
 use Rattle.ledger.proofs.Tested.{place-row, place_function, place_new, place_old, place_0}
 use Rattle.ledger.proofs.checks.refusal_of_place.Goals as goal
 
@@ -17,43 +15,47 @@ module _ (s : List ℕ) (i q : ℕ) (taken : Bool) (e : q ≡ row_rungs taken (r
   asked : q ≡ 0 → (is_sheet_of with_times s ≡ true) × (i < rows_in s)
   asked h = past_row (is_sheet_of with_times s) (rows_in s) i (sym told ∙ h)
 
-pub returns-then-refusal-ne0 : goal.returns-then-refusal-ne0
-returns-then-refusal-ne0 c =
+pub returns-in_err-refusal_in : goal.returns-in_err-refusal_in
+returns-in_err-refusal_in c =
     let a = c.args in
-    let q = told a.s.now a.row _ _ c.refusal_in-refusal.ensures c.says.ensures in
-    q ∙ place-row a.s.now a.row (fields 8 a.words) (λ z. c.if-refusal-ne0.true (q ∙ z))
+    let p = err_from_is_err_and c.from_residual.result c.from_residual.ensures.1 in
+    let q = told a.s.now a.row _ _ c.in_err-refusal_in.ensures c.says.ensures in
+    rw (p.1, p.2) (q ∙ place-row a.s.now a.row a.new.now (refused _ _ q refl))
 
-pub returns-then-unfit-ne0 : goal.returns-then-unfit-ne0
-returns-then-unfit-ne0 c =
+pub returns-in_err-refusal_of_function : goal.returns-in_err-refusal_of_function
+unfolding refusal_of function_in
+returns-in_err-refusal_of_function c =
     let a = c.args in
-    let k = asked a.s.now a.row _ _ c.refusal_in-refusal.ensures c.says.ensures c.if-refusal-ne0.false in
-    let w = fields 8 a.words in
-    let f = c.refusal_of_function-unfit.ensures in
-    f ∙ place_function a.s.now a.row w k.0 k.1 (λ z. c.if-unfit-ne0.true (f ∙ z))
+    let r = c.from_residual-in_err-refusal_of_function in
+    let p = err_from_is_err_and r.result r.ensures.1 in
+    let k = asked a.s.now a.row _ _ c.in_ok-refusal_in.ensures c.says.ensures refl in
+    let q = c.in_err-refusal_of_function.ensures in
+    rw (p.1, p.2) (q ∙ place_function a.s.now a.row a.new.now k.0 k.1 (refused {A = Unit {0}} (Err c.in_err-refusal_of_function.field-0.0) _ q refl))
 
-pub returns-then-not-words_sound : goal.returns-then-not-words_sound
-returns-then-not-words_sound c =
+pub returns-then-not-is_sound : goal.returns-then-not-is_sound
+unfolding refusal_of function_in
+returns-then-not-is_sound c =
     let a = c.args in
-    let k = asked a.s.now a.row _ _ c.refusal_in-refusal.ensures c.says.ensures c.if-refusal-ne0.false in
-    let w = fields 8 a.words in
-    place_new a.s.now a.row w k.0 k.1 (sym c.refusal_of_function-unfit.ensures ∙ c.if-unfit-ne0.false) (sym c.words_sound.ensures ∙ c.if-not-words_sound.true)
+    let k = asked a.s.now a.row _ _ c.in_ok-refusal_in.ensures c.says.ensures refl in
+    place_new a.s.now a.row a.new.now k.0 k.1 (sym c.in_ok-refusal_of_function.ensures) (sym c.is_sound.ensures ∙ c.if-not-is_sound.true)
 
 pub is_damaged-requires : goal.is_damaged-requires
+unfolding refusal_of
 is_damaged-requires c =
     let a = c.args in
-    let k = asked a.s.now a.row _ _ c.refusal_in-refusal.ensures c.says.ensures c.if-refusal-ne0.false in
+    let k = asked a.s.now a.row _ _ c.in_ok-refusal_in.ensures c.says.ensures refl in
     (sheet_of_length with_times a.s.now k.0, k.1)
 
 pub returns-then-is_damaged : goal.returns-then-is_damaged
+unfolding refusal_of function_in
 returns-then-is_damaged c =
     let a = c.args in
-    let k = asked a.s.now a.row _ _ c.refusal_in-refusal.ensures c.says.ensures c.if-refusal-ne0.false in
-    let w = fields 8 a.words in
-    place_old a.s.now a.row w k.0 k.1 (sym c.refusal_of_function-unfit.ensures ∙ c.if-unfit-ne0.false) (sym c.words_sound.ensures ∙ c.if-not-words_sound.false) (sym c.is_damaged.ensures ∙ c.if-is_damaged.true)
+    let k = asked a.s.now a.row _ _ c.in_ok-refusal_in.ensures c.says.ensures refl in
+    place_old a.s.now a.row a.new.now k.0 k.1 (sym c.in_ok-refusal_of_function.ensures) (sym c.is_sound.ensures ∙ c.if-not-is_sound.false) (sym c.is_damaged.ensures ∙ c.if-is_damaged.true)
 
 pub returns : goal.returns
+unfolding refusal_of function_in
 returns c =
     let a = c.args in
-    let k = asked a.s.now a.row _ _ c.refusal_in-refusal.ensures c.says.ensures c.if-refusal-ne0.false in
-    let w = fields 8 a.words in
-    place_0 a.s.now a.row w k.0 k.1 (sym c.refusal_of_function-unfit.ensures ∙ c.if-unfit-ne0.false) (sym c.words_sound.ensures ∙ c.if-not-words_sound.false) (sym c.is_damaged.ensures ∙ c.if-is_damaged.false)
+    let k = asked a.s.now a.row _ _ c.in_ok-refusal_in.ensures c.says.ensures refl in
+    place_0 a.s.now a.row a.new.now k.0 k.1 (sym c.in_ok-refusal_of_function.ensures) (sym c.is_sound.ensures ∙ c.if-not-is_sound.false) (sym c.is_damaged.ensures ∙ c.if-is_damaged.false)

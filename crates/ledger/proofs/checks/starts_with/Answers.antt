@@ -1,31 +1,18 @@
--- The invariant: what is left to compare decides.
-use mathlib.Core.Path.{◌≡◌, refl, ◌∙◌, sym}
-use native.Mathlib.Omega.{arith}
-use borrow.Author.Tests.{eq-eqb, ne_eqb}
-use lib.ListN.{length}
-use Rattle.ledger.proofs.Counts.{left_same, left_other, left_none}
+-- Word by word.
+use Rattle.std.proofs.Common.{◌≡◌, ◌+◌, ◌*◌, ◌≤◌, ◌↔◌, sym, ◌∙◌, refl, arith, rules, IsTrue, EachIndex, ℕ, length, take, drop, slice_index}
+use Rattle.std.specs.Int.{w32, from_le_bytes}
+use Rattle.ledger.proofs.Words.{part_4}
+use Rattle.ledger.proofs.Counts.{equal_each}
 use Rattle.ledger.proofs.checks.starts_with.Goals as goal
+use Rattle.ledger.proofs.checks.starts_with.Goals.{After-all}
 
-pub loop-i-init : goal.loop-i-init
-loop-i-init c = (omega arith, refl)
-
-pub returns-then-get_u32-words : goal.returns-then-get_u32-words
-returns-then-get_u32-words c =
-    let st = c.loop-i in
-    let g = c.well_formed in
-    let e : length c.args.words ≡ 8 = omega arith in
-    left_other c.args.s.now c.args.words st.i c.get_u32.result e c.loop-i-test.true c.get_u32.ensures (ne_eqb _ _ c.if-get_u32-words.true) ∙ sym st.invariant.1
-
-pub loop-i-preserved : goal.loop-i-preserved
-loop-i-preserved c =
-    let st = c.loop-i in
-    let g = c.well_formed in
-    let e : length c.args.words ≡ 8 = omega arith in
-    (omega arith, st.invariant.1 ∙ left_same c.args.s.now c.args.words st.i c.get_u32.result e c.loop-i-test.true c.get_u32.ensures (eq-eqb _ _ c.if-get_u32-words.false))
+each : (c : After-all) → IsTrue c.all.result ↔ EachIndex c.args.words (λ k. from_le_bytes w32 (take 4 (drop (4 * k) c.args.s.now)) ≡ slice_index c.args.words k)
+each c = search rules
 
 pub returns : goal.returns
 returns c =
-    let st = c.loop-i in
-    let g = c.well_formed in
-    let e : length c.args.words ≡ 8 = omega arith in
-    left_none c.args.s.now c.args.words st.i e (omega arith) ∙ sym st.invariant.1
+    let s = c.args.s.now in
+    let n : length c.args.words ≡ 8 = search rules in
+    let word = λ (k : ℕ). part_4 s (4 * k) _ _ in
+    equal_each c.all.result 8 s c.args.words n
+    (λ h k g. sym (word k (omega (arith, c.requires, g)) refl refl) ∙ (each c).0 h k (omega (arith, n, g)), λ f. (each c).1 (λ k g. word k (omega (arith, c.requires, n, g)) refl refl ∙ f k (omega (arith, n, g))))

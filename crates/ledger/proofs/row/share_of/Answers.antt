@@ -1,39 +1,20 @@
--- No row, or test by test.
-use Rattle.ledger.specs.Sheet.{function_in, refusal_in}
-use Rattle.ledger.proofs.Shares.{share_blank, share_refused, share_finite, share_none, no_row, a-row}
+-- No row, or a row's class, value and times.
+use Rattle.std.proofs.Common.{sym, ap, ◌∙◌, ◌≡◌, Some, rules}
+use Rattle.ledger.specs.declared.row.Class.TheVariants.{Finite}
+use Rattle.ledger.proofs.Shares.{value_finite, value_none, no_row, a-row}
 use Rattle.ledger.proofs.row.share_of.Goals as goal
+use Rattle.ledger.proofs.row.share_of.Goals.{then-eq, else-eq}
 
-pub returns-then-row-ne48 : goal.returns-then-row-ne48
-returns-then-row-ne48 c = no_row c.args.row.now c.if-row-ne48.true
+pub returns-after-eq : goal.returns-after-eq
+returns-after-eq c =
+    let v = c.in-Ok.row.now in
+    let k = c.class_of-class in
+    a-row c.args.row.now v _ _ _ c.in-Ok.ensures.1.long c.in-Ok.ensures.1.same k.ensures
+    (elim c.if-eq.branch [
+      then-eq w ↦ w.value-is ∙ w.first-value.ensures ∙ value_finite v _ k.ensures (search rules)
+    | else-eq w ↦ w.value-is ∙ value_none v _ k.ensures (search rules)
+    ])
+    c.times.ensures
 
-pub returns-then-row-eq0 : goal.returns-then-row-eq0
-unfolding function_in
-returns-then-row-eq0 c =
-    let w = c.args.row.now in
-    let t = c.times-k in
-    a-row w c.if-row-ne48.false _ _ _ (share_blank w t.result t.ensures c.if-row-eq0.true)
-
-pub returns-then-row-gt0 : goal.returns-then-row-gt0
-unfolding function_in refusal_in
-returns-then-row-gt0 c =
-    let w = c.args.row.now in
-    let t = c.times-k in
-    a-row w c.if-row-ne48.false _ _ _ (share_refused w t.result t.ensures c.if-row-eq0.false c.if-row-gt0.true)
-
-pub returns-then-class-eq1 : goal.returns-then-class-eq1
-unfolding function_in refusal_in
-returns-then-class-eq1 c =
-    let w = c.args.row.now in
-    let t = c.times-k in
-    let x = c.first-x in
-    let k = c.kind-class in
-    a-row w c.if-row-ne48.false _ _ _ (share_finite w t.result t.ensures c.if-row-eq0.false c.if-row-gt0.false x.result k.result x.ensures k.ensures c.if-class-eq1.true)
-
-pub returns : goal.returns
-unfolding function_in refusal_in
-returns c =
-    let w = c.args.row.now in
-    let t = c.times-k in
-    let x = c.first-x in
-    let k = c.kind-class in
-    a-row w c.if-row-ne48.false _ _ _ (share_none w t.result t.ensures c.if-row-eq0.false c.if-row-gt0.false x.result k.result x.ensures k.ensures c.if-class-eq1.false)
+pub returns-in-Err : goal.returns-in-Err
+returns-in-Err c = no_row c.args.row.now c.in-Err.ensures.1

@@ -1,7 +1,10 @@
--- The number at place 2.
+-- Two bytes as a number.
+use Rattle.std.proofs.Common.{ap, arith, ◌∙◌, ℕ, List, length, length-drop, length-take-le}
+use Rattle.ledger.specs.Bytes.{number}
 use Rattle.ledger.specs.Sheet.{times_in}
+use Rattle.ledger.proofs.Words.{part_2}
 use Rattle.ledger.proofs.row.times.Goals as goal
 
 pub returns : goal.returns
 unfolding times_in
-returns c = c.get_u16.ensures
+returns c = part_2 c.args.row.now 2 _ _ (omega (arith, c.told-row)) c.part.ensures c.from_le_bytes.ensures

@@ -1,35 +1,30 @@
--- The invariant: the limbs read are the number of the bytes passed.
-use mathlib.Core.Path.{◌≡◌, refl, ap, ◌∙◌, sym}
-use Prim.Native.Nat.{◌+◌, ◌*◌, ◌≤◌}
-use native.Mathlib.Omega.{arith}
-use lib.ListN.{length, length-set}
+-- Limb by limb.
+use Rattle.std.proofs.Common.{◌≡◌, ◌+◌, ◌*◌, ◌≤◌, refl, sym, ap, ◌∙◌, arith, length, rules}
 use lib.Seq.{take_all}
 use Rattle.total.specs.Total.{val}
 use Rattle.total.specs.Carry.{W}
 use Rattle.total.specs.laws.Limbs.{val-set_next}
 use Rattle.ledger.specs.Bytes.{number}
+use Rattle.ledger.proofs.Words.{part_8}
 use Rattle.ledger.proofs.Counts.{limb_next}
 use Rattle.ledger.proofs.totals.read_limbs.Goals as goal
 
 pub loop-i-init : goal.loop-i-init
 unfolding val number
-loop-i-init c = (omega arith, refl, refl)
+loop-i-init c = refl
 
 pub loop-i-preserved : goal.loop-i-preserved
 loop-i-preserved c =
-    let st = c.loop-i in
+    let l = c.loop-i in
     let s = c.args.s.now in
-    let x = c.get_u64.result in
-    let h : 8 * st.i + 8 ≤ length s = omega (arith, c.requires) in (
-      omega arith,
-      length-set st.out st.i x ∙ st.invariant.1,
-      rw (val-set_next st.out st.i x (omega arith), limb_next s st.i h) (λ i. st.invariant.2 i + W st.i * c.get_u64.ensures i),
-    )
+    let h : 8 * l.i + 8 ≤ length s = omega (arith, c.requires) in
+    rw (val-set_next l.limb-items l.i c.from_le_bytes.result (omega arith), limb_next s l.i h)
+    (λ i. l.invariant i + W l.i * part_8 s (8 * l.i) _ _ h c.part.ensures c.from_le_bytes.ensures i)
 
 pub returns : goal.returns
 returns c =
-    let st = c.loop-i in
-    let s = c.args.s.now in
-    let h = c.requires in
-    let e : st.i ≡ 34 = omega arith in
-    sym (ap val (take_all st.i st.out (omega arith))) ∙ st.invariant.2 ∙ ap number (take_all (8 * st.i) s (omega arith))
+    let l = c.loop-i in
+    let k = c.loop-i-test in
+    sym (ap val (take_all l.i l.limb-items (omega (arith, k.array_long, k.false))))
+    ∙ l.invariant
+    ∙ ap number (take_all (8 * l.i) c.args.s.now (omega (arith, c.requires, k.false)))

@@ -1,10 +1,15 @@
--- Five counts.
-use native.Mathlib.Omega.{arith}
-use Rattle.ledger.proofs.Counts.{plus_five}
+-- The chain's sum is that of the definition.
+use Rattle.std.proofs.Common.{◌≡◌, ◌+◌, ◌∙◌, ℕ, List, [], ◌∷◌, arith, rules}
+use Rattle.std.specs.List.{sum_by, fold}
+use Rattle.ledger.specs.Calls.{plus}
 use Rattle.ledger.proofs.totals.sum.Goals as goal
+
+added : (a : ℕ) (l : List ℕ) → fold ◌+◌ a l ≡ a + plus l
+unfolding plus
+added a [] = omega arith
+added a (x ∷ l) = added (a + x) l ∙ (omega arith)
 
 pub returns : goal.returns
 returns c =
-    let l = c.args.counts in
-    let g = c.well_formed.0 in
-    omega (arith, plus_five l g.1.0.1, c.wider-5.ensures.0, c.wider-4.ensures.0, c.wider-3.ensures.0, c.wider-2.ensures.0, c.wider.ensures.0)
+    let h : c.sum.result ≡ sum_by (λ x. x) c.args.counts.now = search rules in
+    h ∙ added 0 c.args.counts.now ∙ (omega arith)

@@ -1,0 +1,11 @@
+-- By cases.
+use Rattle.answer.specs.Answer.{refusal_of}
+use Rattle.ledger.proofs.number.Goals as goal
+
+pub returns-in-Ok : goal.returns-in-Ok
+unfolding refusal_of
+returns-in-Ok c = rw c.in-Ok.is
+
+pub returns-in-Err : goal.returns-in-Err
+unfolding refusal_of
+returns-in-Err c = rw c.in-Err.is c.number.ensures

@@ -1,6 +1,0 @@
--- The second byte.
-use Rattle.ledger.specs.laws.Rows.{refusal_words}
-use Rattle.ledger.proofs.row.refusal_of.Goals as goal
-
-pub returns : goal.returns
-returns c = let g = c.well_formed.0 in refusal_words c.args.words g.1.0.1

@@ -1,7 +1,8 @@
 -- Hex text read into a lent sheet (02, [10]): the row count, then a line a row, each worked out again. Definitions only.
-use Rattle.std.specs.Prelude.{ℕ, zero, suc, ◌+◌, min, not, ◌&&◌, Option, Some, None, List, length, get_or, ltb, leb, eqb}
+use Rattle.std.specs.Prelude.{ℕ, zero, suc, ◌+◌, min, not, ◌&&◌, Option, Some, None, Result, Ok, Err, List, length, get_or, ltb, leb, eqb}
 use Rattle.laws.specs.Ladder.{when◌gives◌else◌}
 use Rattle.line.specs.Line.{spell_of}
+use Rattle.answer.specs.Numbers.{number}
 use Rattle.ledger.specs.Bytes.{pattern_at}
 use Rattle.ledger.specs.Sheet.{withdrawn, most_rows, refusal_in}
 use Rattle.ledger.specs.Calls.{blank_refusal, blank_of}
@@ -14,11 +15,24 @@ use Rattle.hextext.specs.declared.Halt.{Halt}
 -- ---- where reading halts
 
 -- the refusal, the line and the column, both from 1; 0 where there is none
-abbrev pub halt_at : ℕ → ℕ → ℕ → Halt
+pub record Halted : Type 0 where
+  pub refusal : ℕ
+  pub line : ℕ
+  pub column : ℕ
+
+abbrev pub halt_at : ℕ → ℕ → ℕ → Halted
 halt_at refusal line column = record { refusal = refusal; line = line; column = column }
 
-abbrev pub fine : Halt
+abbrev pub fine : Halted
 fine = halt_at 0 0 0
+
+-- the same of what the code says
+abbrev pub halted : Halt → Halted
+halted h = halt_at (number h.refusal) h.line h.column
+
+unfoldable pub halt_of : {A : Type 0} → Result A Halt → Halted
+halt_of (Ok a) = fine
+halt_of (Err h) = halted h
 
 -- ---- a row's line
 
@@ -35,12 +49,12 @@ differ_of l =
     None
 
 -- a column where the line is not taken halts it; else it goes on
-unfoldable pub halts_at : ℕ → Option ℕ → Halt → Halt
+unfoldable pub halts_at : ℕ → Option ℕ → Halted → Halted
 halts_at k (Some column) h = halt_at 18 k column
 halts_at k None h = h
 
 -- line k: 18 where it does not read; 22 for the function that goes out; 18 where it says something else than is worked out
-unfoldable pub line_halt : ℕ → List ℕ → Halt
+unfoldable pub line_halt : ℕ → List ℕ → Halted
 line_halt k l =
     halts_at k (stop_of l)
     (when eqb (value_in l 0) withdrawn gives halt_at 22 k 0 else
@@ -51,9 +65,9 @@ line_halt k l =
 -- a sheet, and where reading halted
 pub record Came : Type 0 where
   pub sheet : List ℕ
-  pub end : Halt
+  pub end : Halted
 
-abbrev pub came : List ℕ → Halt → Came
+abbrev pub came : List ℕ → Halted → Came
 came s h = record { sheet = s; end = h }
 
 -- one line from the place `at` of the text, into row i: an edit
@@ -62,7 +76,7 @@ line_into t s i at =
     let l = part_at 10 t at in
     when leb (length t) at gives came s (halt_at 18 (i + 2) 1) else
     when not (eqb (line_halt (i + 2) l).refusal 0) gives came s (line_halt (i + 2) l) else
-    came (edit_of s i (entry_of l)) (halt_at (edit_refusal s i (value_in l 0)) (i + 2) 0)
+    came (edit_of s i (entry_of l)) (when eqb (edit_refusal s i (value_in l 0)) 0 gives fine else halt_at (edit_refusal s i (value_in l 0)) (i + 2) 0)
 
 -- so many rows from i on; then the text must be at its end
 unfoldable pub rows_into : List ℕ → ℕ → List ℕ → ℕ → ℕ → Came

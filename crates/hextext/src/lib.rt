@@ -7,78 +7,81 @@ mod row;
 
 ghost use Rattle.std.specs.Prelude.{◌≡◌, ◌≤◌, ◌<◌};
 ghost use Rattle.ledger.specs.Sheet.{most_rows};
-ghost use Rattle.hextext.specs.HexText.{halt_at, came, line_into, rows_into, text_into};
+ghost use Rattle.hextext.specs.HexText.{halt_of, came, line_into, rows_into, text_into};
 
+use answer::Refusal;
 pub use count::rows;
 use hexline::{next, part};
 use row::{entry, line_halt};
 
-// Why and where reading halted: the refusal, the line and the column, both from 1; 0 where there is none.
+// Why and where reading halted: the refusal, the line and the column, both from 1; 0 where it is no line's, or no column's.
 #[derive(Clone, Copy)]
 pub struct Halt {
-    pub refusal: u8,
+    pub refusal: Refusal,
     pub line: u32,
     pub column: usize,
 }
 
-pub(crate) fn halted(refusal: u8, line: u32, column: usize) -> Halt
-    ensures { result ≡ halt_at refusal line column }
+// A line that does not read from this column on.
+pub(crate) fn malformed(line: u32, column: usize) -> Halt
+    ensures { result ≡ record { refusal = Refusal.Malformed; line = line; column = column } }
 {
     Halt {
-        refusal,
+        refusal: Refusal::Malformed,
         line,
         column,
     }
 }
 
 // One line from a place of the text, into row i.
-fn read_line(sheet: &mut [u8], text: &[u8], i: u32, at: usize) -> Halt
+fn read_line(sheet: &mut [u8], text: &[u8], i: u32, at: usize) -> Result<(), Halt>
     requires { i < most_rows }
-    ensures { came sheet.new result ≡ line_into text.now sheet.old i at }
+    ensures { came sheet.new (halt_of result) ≡ line_into text.now sheet.old i at }
 {
     if text.len() <= at {
-        return halted(18, i + 2, 1);
+        return Err(malformed(i + 2, 1));
     }
-    let line = part(10, text, at);
-    let h = line_halt(i + 2, line);
-    if h.refusal != 0 {
-        return h;
+    let line = part(b'\n', text, at);
+    line_halt(i + 2, line)?;
+    match sheet::edit(sheet, i, entry(line)) {
+        Ok(()) => Ok(()),
+        Err(refusal) => Err(Halt {
+            refusal,
+            line: i + 2,
+            column: 0,
+        }),
     }
-    let refusal = ledger::number(sheet::edit(sheet, i, entry(line)));
-    halted(refusal, i + 2, 0)
 }
 
 // So many rows from a place of the text on.
-fn read_rows(sheet: &mut [u8], text: &[u8], rows: u32, from: usize) -> Halt
+fn read_rows(sheet: &mut [u8], text: &[u8], rows: u32, from: usize) -> Result<(), Halt>
     requires { rows ≤ most_rows }
-    ensures { came sheet.new result ≡ rows_into text.now rows sheet.old 0 from }
+    ensures { came sheet.new (halt_of result) ≡ rows_into text.now rows sheet.old 0 from }
 {
     let mut at = from;
-    let mut i: u32 = 0;
-    while i < rows {
-        let h = read_line(sheet, text, i, at);
-        if h.refusal != 0 {
-            return h;
-        }
-        at = next(10, text, at);
-        i += 1;
+    for i in 0..rows {
+        read_line(sheet, text, i, at)?;
+        at = next(b'\n', text, at);
     }
     if at < text.len() {
-        return halted(18, i + 2, 1);
+        return Err(malformed(rows + 2, 1));
     }
-    halted(0, 0, 0)
+    Ok(())
 }
 
 // The text, into the lent sheet.
-pub fn read_text(sheet: &mut [u8], text: &[u8]) -> Halt
-    ensures { came sheet.new result ≡ text_into text.now sheet.old }
+pub fn read_text(sheet: &mut [u8], text: &[u8]) -> Result<(), Halt>
+    ensures { came sheet.new (halt_of result) ≡ text_into text.now sheet.old }
 {
     let Some(n) = rows(text) else {
-        return halted(18, 1, 1);
+        return Err(malformed(1, 1));
     };
-    let refusal = ledger::number(ledger::make_blank(sheet, n as u32));
-    if refusal != 0 {
-        return halted(refusal, 0, 0);
+    match ledger::make_blank(sheet, n as u32) {
+        Ok(()) => read_rows(sheet, text, n as u32, next(b'\n', text, 0)),
+        Err(refusal) => Err(Halt {
+            refusal,
+            line: 0,
+            column: 0,
+        }),
     }
-    read_rows(sheet, text, n as u32, next(10, text, 0))
 }

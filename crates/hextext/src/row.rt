@@ -2,9 +2,10 @@
 ghost use Rattle.std.specs.Prelude.{◌≡◌, ◌*◌, ◌<◌};
 ghost use Rattle.ledger.specs.Bytes.{fields, pattern_at};
 ghost use Rattle.ledger.specs.Sheet.{refusal_in};
-ghost use Rattle.hextext.specs.HexText.{entry_of, differ_of, line_halt};
+ghost use Rattle.hextext.specs.HexText.{halt_of, entry_of, differ_of, line_halt};
 
-use crate::{Halt, halted};
+use crate::{Halt, malformed};
+use answer::Refusal;
 use hexline::{column, stop, value};
 use sheet::Entry;
 
@@ -54,18 +55,22 @@ fn differ(line: &[u8]) -> Option<usize>
     None
 }
 
-// Why line k is not taken; refusal 0 where it is.
-pub(crate) fn line_halt(k: u32, line: &[u8]) -> Halt
-    ensures { result ≡ line_halt k line.now }
+// Line k is taken; or why it is not.
+pub(crate) fn line_halt(k: u32, line: &[u8]) -> Result<(), Halt>
+    ensures { halt_of result ≡ line_halt k line.now }
 {
-    if let Some(at) = stop(line) {
-        return halted(18, k, at);
+    if let Some(column) = stop(line) {
+        return Err(malformed(k, column));
     }
     if value(line, 0) == WITHDRAWN {
-        return halted(22, k, 0);
+        return Err(Halt {
+            refusal: Refusal::Withdrawn,
+            line: k,
+            column: 0,
+        });
     }
-    if let Some(at) = differ(line) {
-        return halted(18, k, at);
+    if let Some(column) = differ(line) {
+        return Err(malformed(k, column));
     }
-    halted(0, 0, 0)
+    Ok(())
 }

@@ -7,8 +7,7 @@ use Rattle.text.specs.Text.{decimal, end}
 use Rattle.ledger.specs.Sheet.{most_rows, size_for}
 use Rattle.ledger.specs.Calls.{rows_in}
 use Rattle.hexline.specs.Parts.{part_at}
-use Rattle.hextext.specs.declared.Halt.{Halt}
-use Rattle.hextext.specs.HexText.{halt_at, Came, count_of, text_into}
+use Rattle.hextext.specs.HexText.{Halted, halt_at, Came, count_of, text_into}
 use Rattle.files.specs.Calls.{Called, words, Counts}
 use Rattle.files.specs.Save.{Save}
 use Rattle.files.specs.Notes.{cannot_write, usage_line}
@@ -35,14 +34,14 @@ unfoldable pub taken_of : List ℕ → Came
 taken_of t = text_into t (replicate (lent_for (count_of (part_at 10 t 0))) 0)
 
 -- where it halts; a text that fills the buffer is not taken, whatever it says
-unfoldable pub end_of : List ℕ → Halt
+unfoldable pub end_of : List ℕ → Halted
 end_of t =
     when eqb (taken_of t).end.refusal 0 && leb most_text (length t) gives halt_at 18 1 1 else
     (taken_of t).end
 
 -- ---- what is said
 
-unfoldable pub halt_line : Halt → List ℕ
+unfoldable pub halt_line : Halted → List ℕ
 halt_line h =
     when eqb h.refusal 18 gives ascii "refused 18 line " ++ decimal h.line ++ ascii " column " ++ decimal h.column ++ end else
     when eqb h.refusal 22 gives number_line (ascii "refused 22 line ") h.line else

@@ -9,11 +9,12 @@ ghost use Rattle.page.specs.Page.{largest};
 ghost use Rattle.files.specs.Calls.{number_of};
 ghost use Rattle.files.specs.Save.{Save};
 ghost use Rattle.hexline.specs.Parts.{part_at};
-ghost use Rattle.hextext.specs.HexText.{count_of};
+ghost use Rattle.hextext.specs.HexText.{halt_of, count_of};
 ghost use Rattle.reading.specs.Taken.{lent_for, taken_of, end_of, Readable, Answered, Done, Ran};
 
+use answer::Refusal;
 use ends::line_ends;
-use files::{Output, Program, Source, WORD};
+use files::{Output, Source, WORD};
 use hextext::Halt;
 use loading::put_number;
 use page::LARGEST;
@@ -36,19 +37,19 @@ fn lent(text: &[u8]) -> usize
 }
 
 // The text into the lent zeros: where it halted.
-fn take(sheet: &mut [u8], text: &[u8]) -> Halt
+fn take(sheet: &mut [u8], text: &[u8]) -> Result<(), Halt>
     requires { sheet.old ≡ replicate (lent_for (count_of (part_at 10 text.now 0))) 0 }
-    ensures { (result ≡ end_of text.now) × (sheet.new ≡ (taken_of text.now).sheet) }
+    ensures { (halt_of result ≡ end_of text.now) × (sheet.new ≡ (taken_of text.now).sheet) }
 {
-    let h = hextext::read_text(sheet, text);
-    if (h.refusal == 0) & (MOST_TEXT <= text.len()) {
-        return Halt {
-            refusal: 18,
+    hextext::read_text(sheet, text)?;
+    if MOST_TEXT <= text.len() {
+        return Err(Halt {
+            refusal: Refusal::Malformed,
             line: 1,
             column: 1,
-        };
+        });
     }
-    h
+    Ok(())
 }
 
 // The one call that writes a file: with a sheet that a whole text was taken into. So where a text is refused no file is written.
@@ -71,14 +72,13 @@ fn settle(
     requires { sheet.old ≡ replicate (lent_for (count_of (part_at 10 text.now 0))) 0 }
     ensures { Answered text.now name.now out result }
 {
-    let h = take(sheet, text);
-    if h.refusal != 0 {
+    if let Err(halt) = take(sheet, text) {
         files::tell(
             rt,
             program,
             b": the file is as it was; mend the line that is named, and read the whole text again\n",
         );
-        return put_halt(rt, out, h);
+        return put_halt(rt, out, halt);
     }
     if !save_sheet(rt, name, sheet) {
         files::tell(
@@ -136,10 +136,5 @@ pub fn run(rt: &HostRuntime, program: &[u8], call: &[u8], input: Source<'_>, out
     let mut name = [0u8; WORD];
     let name = files::word(rt, 1, &mut name);
     let end = read_input(rt, program, input, output, name);
-    let program = Program {
-        rt,
-        name: program,
-        output,
-    };
-    ending::tell_cut(program, end);
+    ending::tell_cut(rt, program, end);
 }

@@ -4,8 +4,10 @@ ghost use Rattle.laws.specs.Ascii.{ascii};
 ghost use Rattle.text.specs.Text.{decimal, end};
 ghost use Rattle.placing.specs.Placed.{Placed};
 ghost use Rattle.files.specs.Output.{Wrote};
+ghost use Rattle.hextext.specs.HexText.{halted};
 ghost use Rattle.reading.specs.Taken.{halt_line};
 
+use answer::Refusal;
 use files::Output;
 use hextext::Halt;
 use loading::put_number;
@@ -30,13 +32,11 @@ fn put_18(rt: &HostRuntime, out: Output, line: u64, column: u64) -> Output
 }
 
 pub(crate) fn put_halt(rt: &HostRuntime, out: Output, h: Halt) -> Output
-    ensures { Wrote out (halt_line h) result }
+    ensures { Wrote out (halt_line (halted h)) result }
 {
-    if h.refusal == 18 {
-        return put_18(rt, out, h.line as u64, h.column as u64);
+    match h.refusal {
+        Refusal::Malformed => put_18(rt, out, h.line as u64, h.column as u64),
+        Refusal::Withdrawn => put_number(rt, out, b"refused 22 line ", h.line as u64),
+        refusal => put_number(rt, out, b"refused ", refusal.number() as u64),
     }
-    if h.refusal == 22 {
-        return put_number(rt, out, b"refused 22 line ", h.line as u64);
-    }
-    put_number(rt, out, b"refused ", h.refusal as u64)
 }

@@ -1,35 +1,53 @@
 -- No line, a line that is not taken, or an edit.
-use mathlib.Core.Path.{refl, ap, ap₂, ◌∙◌}
+use mathlib.Core.Path.{◌≡◌, refl, sym, ap, ◌∙◌}
 use Prim.Native.Nat.{ℕ, ◌+◌}
-use borrow.Author.Tests.{le-leb, lt-leb, eq-eqb, ne_eqb}
+use mathlib.Core.List.{List}
+use borrow.Author.Tests.{le-leb, lt-leb, ne_eqb}
+use Rattle.answer.specs.Answer.{refusal_of}
+use Rattle.answer.specs.Numbers.{number}
 use Rattle.sheet.specs.declared.Entry.{Entry}
 use Rattle.sheet.specs.Edit.{edit_refusal, edit_of}
-use Rattle.hextext.specs.HexText.{halt_at, entry_of, line_halt, came, line_into}
+use Rattle.std.proofs.lemmas.Result.{err_from_is_err_and}
+use Rattle.hexline.specs.Parts.{part_at}
+use Rattle.hextext.specs.HexText.{halt_at, fine, halt_of, entry_of, line_halt, came, line_into}
+use Rattle.ledger.specs.laws.Refusals.{numbered}
 use Rattle.hextext.proofs.read_line.Goals as goal
 
 pub returns-then-text-at : goal.returns-then-text-at
-unfolding line_into
-returns-then-text-at c =
-    let s = c.args.sheet.now in
-    rw (le-leb _ _ c.if-text-at.true) (ap (came s) c.halted.ensures)
+unfolding line_into halt_of
+returns-then-text-at c = rw (le-leb _ _ c.if-text-at.true, c.malformed.ensures) refl
 
-pub returns-then-h-ne0 : goal.returns-then-h-ne0
-unfolding line_into
-returns-then-h-ne0 c =
-    let s = c.args.sheet.now in
-    let i = c.args.i in
-    let h = c.line_halt-h.ensures ∙ ap (line_halt (i + 2)) c.part-line.ensures in
-    rw (lt-leb _ _ c.if-text-at.false) (rw (← h, ne_eqb _ 0 c.if-h-ne0.true) refl)
+pub returns-in_err-line_halt : goal.returns-in_err-line_halt
+unfolding line_into halt_of
+returns-in_err-line_halt c =
+    let a = c.args in
+    let e = c.in_err-line_halt.field-0.0 in
+    let h : halt_at (number e.refusal) e.line e.column ≡ line_halt (a.i + 2) (part_at 10 a.text.now a.at) =
+        c.in_err-line_halt.ensures ∙ ap (line_halt (a.i + 2)) c.part-line.ensures in
+    let p = err_from_is_err_and c.from_residual.result c.from_residual.ensures.1 in
+    rw (p.1, p.2) (rw (lt-leb _ _ c.if-text-at.false) (rw (← h, ne_eqb (number e.refusal) 0 (numbered e.refusal)) refl))
 
-pub returns : goal.returns
-unfolding line_into
-returns c =
+pub returns-in-Ok : goal.returns-in-Ok
+unfolding line_into halt_of refusal_of
+returns-in-Ok c =
     let a = c.args in
     let line = c.part-line.ensures in
-    let h = c.line_halt-h.ensures ∙ ap (line_halt (a.i + 2)) line in
+    let h = c.in_ok-line_halt.ensures ∙ ap (line_halt (a.i + 2)) line in
     let e = c.entry.ensures ∙ ap entry_of line in
-    let q = c.number-refusal.ensures ∙ c.edit.ensures.0 in
-    let new = c.edit.ensures.1 in
+    let q = c.in-Ok.ensures in
+    let z = sym (q.0 ∙ ap (λ (x : Entry). edit_refusal a.sheet.now a.i x.function) e) in
+    rw (lt-leb _ _ c.if-text-at.false) (rw (← h) (rw z (ap (λ (s : List ℕ). came s fine) (q.1 ∙ ap (edit_of a.sheet.now a.i) e))))
+
+pub returns-in-Err : goal.returns-in-Err
+unfolding line_into halt_of refusal_of
+returns-in-Err c =
+    let a = c.args in
+    let line = c.part-line.ensures in
+    let h = c.in_ok-line_halt.ensures ∙ ap (line_halt (a.i + 2)) line in
+    let e = c.entry.ensures ∙ ap entry_of line in
+    let q = c.in-Err.ensures in
+    let r = c.in-Err.refusal in
+    let z = sym (q.0 ∙ ap (λ (x : Entry). edit_refusal a.sheet.now a.i x.function) e) in
     rw (lt-leb _ _ c.if-text-at.false)
-    (rw (← h, eq-eqb _ 0 c.if-h-ne0.false)
-    (ap₂ came (new ∙ ap (edit_of a.sheet.now a.i) e) (c.halted-2.ensures ∙ ap (λ (k : ℕ). halt_at k (a.i + 2) 0) (q ∙ ap (λ (x : Entry). edit_refusal a.sheet.now a.i x.function) e))))
+    (rw (← h)
+    (rw (z, ne_eqb (number r) 0 (numbered r)) (ap (λ (s : List ℕ). came s (halt_at (number r) (a.i + 2) 0)) (q.1 ∙ ap (edit_of a.sheet.now a.i) e))))

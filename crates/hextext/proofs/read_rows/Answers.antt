@@ -1,48 +1,45 @@
 -- What is left to read, from where it stands, is all of it.
-use mathlib.Core.Path.{refl, ap, ◌∙◌}
+use mathlib.Core.Path.{◌≡◌, refl, ap, ◌∙◌}
 use native.Mathlib.Nat.{sub-zero}
 use native.Mathlib.Omega.{arith}
-use Rattle.hextext.specs.HexText.{came}
+use Rattle.std.proofs.lemmas.Result.{err_from_is_err_and}
+use Rattle.answer.specs.Numbers.{number}
+use Rattle.hextext.specs.HexText.{halt_at, halt_of}
+use Rattle.ledger.specs.laws.Refusals.{numbered}
 use Rattle.hextext.proofs.OneByOne.{halts, goes_on_lem, too_many, at-end}
 use Rattle.hextext.proofs.read_rows.Goals as goal
 
 pub loop-i-init : goal.loop-i-init
-loop-i-init c = (rw sub-zero refl, omega arith, refl)
+loop-i-init c = rw sub-zero refl
 
-pub read_line-h-requires : goal.read_line-h-requires
-read_line-h-requires c = let rows = c.requires in omega (arith, rows, c.loop-i-test.true)
-
-pub returns-then-h-ne0 : goal.returns-then-h-ne0
-returns-then-h-ne0 c =
+pub returns-in_err-read_line : goal.returns-in_err-read_line
+unfolding halt_of
+returns-in_err-read_line c =
     let l = c.loop-i in
     let a = c.args in
-    let call = c.read_line-h in
-    halts a.text.now l.sheet a.rows l.i l.at c.loop-i-test.true _ call.result call.ensures c.if-h-ne0.true ∙ l.invariant.0
-
-pub overflow_add-i : goal.overflow_add-i
-overflow_add-i c = omega (arith, c.loop-i-test.true)
-
-pub loop-i-smaller : goal.loop-i-smaller
-loop-i-smaller c = omega (arith, c.loop-i-test.true)
+    let e = c.in_err-read_line.field-0.0 in
+    let p = err_from_is_err_and c.from_residual.result c.from_residual.ensures.1 in
+    rw (p.1, p.2)
+    (halts a.text.now l.sheet a.rows l.i l.at c.loop-i-test.true _ (halt_at (number e.refusal) e.line e.column) c.in_err-read_line.ensures (numbered e.refusal)
+    ∙ l.invariant)
 
 pub loop-i-preserved : goal.loop-i-preserved
+unfolding halt_of
 loop-i-preserved c =
     let l = c.loop-i in
     let a = c.args in
-    let call = c.read_line-h in
-    (rw c.next-at.ensures (goes_on_lem a.text.now l.sheet a.rows l.i l.at c.loop-i-test.true _ call.result call.ensures c.if-h-ne0.false ∙ l.invariant.0), omega (arith, c.loop-i-test.true), call.auto.sheet ∙ l.invariant.2)
-
-pub overflow_add-i-then-at-text : goal.overflow_add-i-then-at-text
-overflow_add-i-then-at-text c = let rows = c.requires in omega (arith, rows, c.loop-i.invariant.1)
+    rw c.next-at.ensures (goes_on_lem a.text.now l.sheet a.rows l.i l.at c.loop-i-test.true _ c.in_ok-read_line.ensures ∙ l.invariant)
 
 pub returns-then-at-text : goal.returns-then-at-text
+unfolding halt_of
 returns-then-at-text c =
     let l = c.loop-i in
     let a = c.args in
-    ap (came l.sheet) c.halted.ensures ∙ too_many a.text.now l.sheet a.rows l.i l.at c.loop-i-test.false c.if-at-text.true ∙ l.invariant.0
+    rw c.malformed.ensures (too_many a.text.now l.sheet a.rows l.i l.at (omega arith) c.if-at-text.true ∙ l.invariant)
 
 pub returns : goal.returns
+unfolding halt_of
 returns c =
     let l = c.loop-i in
     let a = c.args in
-    ap (came l.sheet) c.halted-2.ensures ∙ at-end a.text.now l.sheet a.rows l.i l.at c.loop-i-test.false c.if-at-text.false ∙ l.invariant.0
+    at-end a.text.now l.sheet a.rows l.i l.at (omega arith) c.if-at-text.false ∙ l.invariant

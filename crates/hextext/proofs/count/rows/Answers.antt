@@ -12,7 +12,7 @@ unfolding count_of
 returns-in_default c =
     let s = c.part-s.result.now in
     let e : spell_of 10 0 s ≡ count_of s =
-        elim c.in_default.branch [ in_default-via-then-s-lt2 w ↦ grind (arith, nat_tests) | in_default-via-else-s-lt2+in_default-1 w ↦ grind (arith, nat_tests) ] in
+    elim c.in_default.branch [ in_default-via-then-s-lt2 w ↦ grind (arith, nat_tests) | in_default-via-else-s-lt2+in_default-1 w ↦ grind (arith, nat_tests) ] in
     c.digits.ensures ∙ ap capped (e ∙ ap count_of c.part-s.ensures)
 
 pub returns-in-empty : goal.returns-in-empty

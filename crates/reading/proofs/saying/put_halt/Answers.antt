@@ -1,16 +1,21 @@
 -- 18, 22, or another number.
-use borrow.Author.Tests.{eq-eqb, ne_eqb}
+use borrow.Author.Tests.{ne_eqb}
+use Rattle.answer.specs.Numbers.{number}
 use Rattle.reading.specs.Taken.{halt_line}
+use Rattle.reading.proofs.Others.{other}
 use Rattle.reading.proofs.saying.put_halt.Goals as goal
 
-pub returns-then-h-eq18 : goal.returns-then-h-eq18
+pub returns-in-Malformed : goal.returns-in-Malformed
 unfolding halt_line
-returns-then-h-eq18 c = rw (eq-eqb _ 18 c.if-h-eq18.true) c.put_18.ensures
+returns-in-Malformed c = rw c.in-Malformed.is c.put_18.ensures
 
-pub returns-then-h-eq22 : goal.returns-then-h-eq22
+pub returns-in-Withdrawn : goal.returns-in-Withdrawn
 unfolding halt_line
-returns-then-h-eq22 c = rw (ne_eqb _ 18 c.if-h-eq18.false, eq-eqb _ 22 c.if-h-eq22.true) c.put_number.ensures
+returns-in-Withdrawn c = rw c.in-Withdrawn.is c.put_number.ensures
 
-pub returns : goal.returns
+pub returns-in_default : goal.returns-in_default
 unfolding halt_line
-returns c = rw (ne_eqb _ 18 c.if-h-eq18.false, ne_eqb _ 22 c.if-h-eq22.false) c.put_number-2.ensures
+returns-in_default c =
+    let q = c.args.h.refusal in
+    let o = other q c.in_default.not-Malformed c.in_default.not-Withdrawn in
+    rw (ne_eqb (number q) 18 o.0, ne_eqb (number q) 22 o.1) (rw c.number.ensures at c.put_number-in_default.ensures)

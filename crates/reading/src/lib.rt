@@ -14,7 +14,7 @@ ghost use Rattle.reading.specs.Taken.{lent_for, taken_of, end_of, Readable, Answ
 
 use answer::Refusal;
 use ends::line_ends;
-use files::{Output, Source, WORD};
+use files::{Output, Program, Source, WORD};
 use hextext::Halt;
 use loading::put_number;
 use page::LARGEST;
@@ -136,5 +136,10 @@ pub fn run(rt: &HostRuntime, program: &[u8], call: &[u8], input: Source<'_>, out
     let mut name = [0u8; WORD];
     let name = files::word(rt, 1, &mut name);
     let end = read_input(rt, program, input, output, name);
-    ending::tell_cut(rt, program, end);
+    let program = Program {
+        rt,
+        name: program,
+        output,
+    };
+    ending::tell_cut(program, end);
 }

@@ -19,10 +19,13 @@ STANDING = {
     *((('bits', 'specs.laws.Wide'), name) for name in ('difference_whole', 'high_is', 'room', 'sum-whole', 'val-lt')), (('bits', 'specs.Wide'), 'Halves'),
     *((('ellipf', 'specs.laws.Signum'), name) for name in ('signed', 'signum_is')),
     *((('legendre', 'specs.laws.Decided'), name) for name in ('by_mean', 'on_piece')),
+    (('ledger', 'specs.laws.Refusals'), 'read_48'), *((('ledger', 'specs.laws.Rows'), name) for name in ('first_words', 'function_words', 'length_words', 'refusal_words')),
     *((('whole', 'specs.laws.Wholes'), name) for name in ('above_zero', 'below-zero', 'some_below')),
 }
 # Functions that legsheet called when they landed: they stay where docs/PROVED.md names them.
 NAMED = {'text::put_hex', 'bits::plus', 'bits::minus', 'bits::less', 'answer::infinite'}
+# What turns a refusal and a class into C's numbers stands beside those types.
+NAMED |= {'ledger::number', 'ledger::class_number'}
 
 
 def stands_on():

@@ -1,5 +1,5 @@
 -- What the public calls hand back, refused and not. Assumes nothing.
-use mathlib.Core.Path.{◌≡◌, refl, ap, ◌∙◌, sym}
+use mathlib.Core.Path.{◌≡◌, refl, ap, sym}
 use mathlib.Core.Bool.{Bool, true, false, cond}
 use mathlib.Core.List.{List}
 use Prim.Native.Nat.{ℕ, ◌+◌, ◌<◌, ◌≤◌}
@@ -14,7 +14,7 @@ use Rattle.answer.specs.Answer.{refusal_of}
 use lib.Ieee.{round, of_bits}
 use Rattle.total.specs.Total.{Half, round_total}
 use Rattle.ledger.specs.Sheet.{Row, row_place, most_rows, size_for, encode, blank_row}
-use Rattle.ledger.specs.Calls.{Sized, rows_in, row_in, counts_in, total_in, is_sheet, row_refusal, total_refusal, place_refusal, blank_refusal, edited, place_of, blank_of, total_of, exact_of, count_of}
+use Rattle.ledger.specs.Calls.{Sized, rows_in, counts_in, total_in, is_sheet, row_refusal, total_refusal, place_refusal, blank_refusal, edited, place_of, blank_of, total_of, exact_of, count_of}
 use Rattle.ledger.specs.laws.Refusals.{length-counts, row_room, readable, sheet_length, sheet_taken, refused, taken}
 
 -- ---- a row placed

@@ -3,15 +3,14 @@ use mathlib.Core.Path.{◌≡◌, refl, ap, ◌∙◌, sym}
 use mathlib.Core.Bool.{Bool, true, false, ◌&&◌, false≢true}
 use mathlib.Core.Logic.{◌↔◌}
 use mathlib.Core.List.{List, [], ◌∷◌, ◌++◌, append_assoc, append-nil}
-use Prim.Native.Nat.{ℕ, zero, suc, ◌+◌, ◌-◌, ◌*◌, ◌/◌, ◌%◌, ◌^◌, ◌≤◌, ◌<◌}
+use Prim.Native.Nat.{ℕ, zero, suc, ◌+◌, ◌*◌, ◌/◌, ◌%◌, ◌^◌, ◌≤◌, ◌<◌}
 use native.Mathlib.Nat.{pow-suc, zero-add, suc-add, mul_comm, mul_assoc, div-lt_iff_lt-mul, add-mul-mod_self_left, add-mul-div_left, mod-add-div, mod-lt}
-use native.Mathlib.Numerals.{add-one}
 use native.Mathlib.Omega.{arith}
 use borrow.Author.Tests.{eq-eqb, eqb-true}
 use lib.Dec.{lit<}
 use lib.Pow.{pow-add}
-use lib.ListN.{length, take, drop, get_or, set, drop_of_length-le}
-use lib.Seq.{drop-drop, drop-cons, take-add, length-take-le}
+use lib.ListN.{length, take, drop, get_or, set}
+use lib.Seq.{drop-drop, take-add, length-take-le}
 use Rattle.total.specs.Total.{lowest, limbs_of}
 use Rattle.total.specs.Carry.{W}
 use Rattle.total.specs.laws.Limbs.{W-pow}

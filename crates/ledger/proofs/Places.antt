@@ -4,7 +4,7 @@ use mathlib.Core.List.{List, [], ◌∷◌, ◌++◌, append_assoc}
 use Prim.Native.Nat.{ℕ, ◌+◌, ◌-◌, ◌/◌, ◌≤◌, ◌<◌}
 use native.Mathlib.Omega.{arith}
 use lib.ListN.{length, take, drop, get_or, length-append}
-use lib.Seq.{drop-drop, take_at, drop_at, length-take-le}
+use lib.Seq.{drop-drop, length-take-le}
 use Rattle.total.specs.Total.{limbs_of}
 use Rattle.laws.specs.Splice.{splice}
 use Rattle.ledger.specs.Bytes.{number, fields, read}
@@ -42,12 +42,6 @@ module _ (s w : List ℕ) (i : ℕ) (h : Sized s) (g : i < rows_in s) (e : lengt
   rows_kept : rows_in (splice s (row_place i) w) ≡ rows_in s
   unfolding rows_in
   rows_kept = ap (λ (n : ℕ). (n - 328) / 48) row-length
-
-  pub row_back : row_in (splice s (row_place i) w) i ≡ w
-  unfolding row_in
-  row_back =
-      rw (drop_at (take (row_place i) s) (w ++ drop (row_place i + length w) s) (row_place i) (length-take-le (row_place i) s (omega (arith, room))))
-      (take_at w (drop (row_place i + length w) s) 48 e)
 
   after : (n : ℕ) → drop (row_place (rows_in s) + n) (splice s (row_place i) w) ≡ drop (row_place (rows_in s) + n) s
   after n = drop-after s w (row_place i) (row_place (rows_in s) + n) (omega (arith, room)) (omega (arith, g, e))

@@ -5,7 +5,7 @@ use Prim.Native.Nat.{ℕ, zero, suc, ◌+◌, ◌-◌, ◌*◌, ◌/◌, ◌%◌
 use native.Mathlib.Nat.{div-div-eq-div-mul, mul-suc, mul-le-mul_left, le_of_lt, pow-suc, div-one}
 use native.Mathlib.Numerals.{add-one}
 use native.Mathlib.Omega.{arith}
-use lib.ListN.{length, take, drop, get_or, length-append, length-drop, drop_of_length-le}
+use lib.ListN.{length, take, drop, get_or, length-drop, drop_of_length-le}
 use lib.Seq.{take-suc, take_all, drop-drop, take_at, length-take-le}
 use borrow.Rule.Slice.PartMut.{put_mid, Post-is}
 use Rattle.std.specs.Int.{w16, w32, w64, from_le_bytes, to_le_bytes, byte_worth, byte_at, bytes_low_first, sum_through}
@@ -21,10 +21,6 @@ number-next zero [] = refl
 number-next zero (x ∷ l) = omega arith
 number-next (suc k) [] = omega arith
 number-next (suc k) (x ∷ l) = rw (number-next k l, pow-suc 256 k) (omega arith)
-
-worth : (k b : ℕ) → byte_worth k b ≡ b * 256 ^ k
-worth zero b = omega arith
-worth (suc k) b = refl
 
 up_to : (k : ℕ) (l : List ℕ) → sum_through (λ i. byte_worth i (get_or l i 0)) k ≡ number (take (suc k) l)
 unfolding number
@@ -71,24 +67,8 @@ unfolding fields
 one w x = append-nil (bytes w x)
 
 module _ (w : ℕ) (s₀ xs : List ℕ) (e : length s₀ ≡ w * length xs) where
-  room : (i : ℕ) → i < length xs → w * i + w ≤ w * length xs
-  room i h = rw (← mul-suc w i) (mul-le i h)
-    where
-      mul-le : (i : ℕ) → i < length xs → w * suc i ≤ w * length xs
-      mul-le i h = mul-le-mul_left w h
-
   length-first : (i : ℕ) → i ≤ length xs → length (fields w (take i xs)) ≡ w * i
   length-first i h = length_fields w (take i xs) ∙ ap (λ (n : ℕ). w * n) (length-take-le i xs h)
-
-  pub written-length : (i : ℕ) (s : List ℕ) → i ≤ length xs → Written w s₀ xs i s → length s ≡ length s₀
-  written-length i s h v =
-      ap length v ∙ rw (length-append, length-first i h, length-drop, e) (fit (w * i) (w * length xs) (mul-le-mul_left w h))
-    where
-      fit : (a b : ℕ) → a ≤ b → a + (b - a) ≡ b
-      fit a b h = omega arith
-
-  pub write_room : (i : ℕ) (s : List ℕ) → i < length xs → Written w s₀ xs i s → w * i + w ≤ length s
-  write_room i s h v = rw (written-length i s (le_of_lt h) v, e) (room i h)
 
   pub write_next : (i : ℕ) (s : List ℕ) → i < length xs → Written w s₀ xs i s → Written w s₀ xs (i + 1) (splice s (w * i) (bytes w (get_or xs i 0)))
   write_next i s h v =

@@ -80,7 +80,10 @@ pub fn make_blank(sheet: &mut [u8], rows: u32) -> Result<(), Refusal>
         return Err(Refusal::NotASheet);
     }
     sheet.fill(0);
-    put_words(&mut sheet[0..32], &paired(contents(Kind::WithTimes as u32, rows)));
+    put_words(
+        &mut sheet[0..32],
+        &paired(contents(Kind::WithTimes as u32, rows)),
+    );
     let at = row_place(rows);
     let end = at + 4;
     sheet[at..end].copy_from_slice(&rows.to_le_bytes());

@@ -7,10 +7,9 @@ ghost use Rattle.ledger.specs.Sheet.{most_rows, row_place, sound, class_of};
 ghost use Rattle.ledger.specs.Class.{number_of};
 ghost use Rattle.ledger.specs.Calls.{Sized, rows_in, counts_in, total_in, plus, recount, revised};
 
-use std::array::from_fn;
-
 use super::bytes::{pair, part, put_words};
 use super::row::{Class, Share, index, share_of};
+use std::array::from_fn;
 use total::Total;
 
 // Where the totals start: they are the last 296 bytes.

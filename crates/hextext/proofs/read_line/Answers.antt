@@ -23,7 +23,7 @@ returns-in_err-line_halt c =
     let a = c.args in
     let e = c.in_err-line_halt.field-0.0 in
     let h : halt_at (number e.refusal) e.line e.column ≡ line_halt (a.i + 2) (part_at 10 a.text.now a.at) =
-        c.in_err-line_halt.ensures ∙ ap (line_halt (a.i + 2)) c.part-line.ensures in
+    c.in_err-line_halt.ensures ∙ ap (line_halt (a.i + 2)) c.part-line.ensures in
     let p = err_from_is_err_and c.from_residual.result c.from_residual.ensures.1 in
     rw (p.1, p.2) (rw (lt-leb _ _ c.if-text-at.false) (rw (← h, ne_eqb (number e.refusal) 0 (numbered e.refusal)) refl))
 

@@ -1,7 +1,7 @@
 -- Refused, or zeros with the contents and the count of blank rows written.
 use mathlib.Core.Path.{◌≡◌, ap, ◌∙◌, sym}
 use mathlib.Core.List.{List}
-use Prim.Native.Nat.{ℕ, ◌*◌, ◌+◌, ◌≤◌}
+use Prim.Native.Nat.{ℕ, ◌*◌}
 use lib.ListN.{length, replicate}
 use Rattle.laws.specs.Splice.{splice}
 use Rattle.answer.specs.Answer.{refusal_of}

@@ -4,7 +4,7 @@ use Rattle.std.proofs.lemmas.Result.{err_from_is_err_and}
 use Rattle.answer.specs.Answer.{refusal_of}
 use Rattle.ledger.specs.Bytes.{fields}
 use Rattle.ledger.specs.Sheet.{with_times, sound}
-use Rattle.ledger.specs.Calls.{place_refusal, place_of, edited}
+use Rattle.ledger.specs.Calls.{place_refusal, edited}
 use Rattle.ledger.specs.laws.Refusals.{placed, sheet_of_length, sheet_of_few}
 use Rattle.ledger.proofs.Answered.{place_refused, place-stored}
 use Rattle.ledger.proofs.place.Goals as goal

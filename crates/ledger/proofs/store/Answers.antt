@@ -3,7 +3,7 @@ use Rattle.std.proofs.Common.{◌≡◌, ◌+◌, ◌-◌, ap, ◌∙◌, ℕ, L
 use borrow.Rule.Slice.PartMut.{put_mid}
 use Rattle.laws.specs.Splice.{splice}
 use Rattle.ledger.specs.Sheet.{row_place}
-use Rattle.ledger.specs.Calls.{rows_in, row_in, revised}
+use Rattle.ledger.specs.Calls.{rows_in, revised}
 use Rattle.ledger.specs.laws.Refusals.{row_room, undamaged}
 use Rattle.ledger.proofs.Words.{put_back}
 use Rattle.ledger.proofs.Places.{edited_is, revisable}

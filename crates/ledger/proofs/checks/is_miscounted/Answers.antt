@@ -1,5 +1,5 @@
 -- The sum of the counts, then the one of the row's class.
-use Rattle.std.proofs.Common.{◌≡◌, sym, ap, ◌∙◌, arith, length, get_or, Some}
+use Rattle.std.proofs.Common.{◌≡◌, sym, ap, ◌∙◌, arith, length, get_or}
 use lib.Dec.{eqb}
 use Rattle.ledger.specs.Sheet.{class_of}
 use Rattle.ledger.specs.Class.{class_at}

@@ -1,5 +1,4 @@
 -- Test by test.
-use mathlib.Core.Path.{◌∙◌}
 use Rattle.answer.specs.Answer.{refusal_of}
 use Rattle.ledger.specs.Calls.{rows_in}
 use Rattle.ledger.proofs.Tested.{row_7, row_8, row_0}

@@ -3,7 +3,7 @@ use Rattle.std.proofs.Common.{◌≡◌, Bool, true, sym, ap, refl, ◌∙◌, L
 use Rattle.std.proofs.lemmas.Result.{err_from_is_err_and}
 use Rattle.answer.specs.Answer.{refusal_of}
 use Rattle.ledger.specs.Sheet.{with_times, function_in}
-use Rattle.ledger.specs.Calls.{rows_in, is_sheet_of, row_rungs, function_rungs}
+use Rattle.ledger.specs.Calls.{rows_in, is_sheet_of, row_rungs}
 use Rattle.ledger.specs.laws.Refusals.{refused, past_row, sheet_of_length}
 use Rattle.ledger.proofs.Tested.{place-row, place_function, place_new, place_old, place_0}
 use Rattle.ledger.proofs.checks.refusal_of_place.Goals as goal

@@ -1,5 +1,5 @@
 -- Word by word.
-use Rattle.std.proofs.Common.{◌≡◌, ◌+◌, ◌*◌, ◌≤◌, ◌↔◌, sym, ◌∙◌, refl, arith, rules, IsTrue, EachIndex, ℕ, length, take, drop, slice_index}
+use Rattle.std.proofs.Common.{◌≡◌, ◌*◌, ◌↔◌, sym, ◌∙◌, refl, arith, rules, IsTrue, EachIndex, ℕ, length, take, drop, slice_index}
 use Rattle.std.specs.Int.{w32, from_le_bytes}
 use Rattle.ledger.proofs.Words.{part_4}
 use Rattle.ledger.proofs.Counts.{equal_each}

@@ -1,6 +1,5 @@
 -- No row, or a row's class, value and times.
-use Rattle.std.proofs.Common.{sym, ap, ◌∙◌, ◌≡◌, Some, rules}
-use Rattle.ledger.specs.declared.row.Class.TheVariants.{Finite}
+use Rattle.std.proofs.Common.{◌∙◌, rules}
 use Rattle.ledger.proofs.Shares.{value_finite, value_none, no_row, a-row}
 use Rattle.ledger.proofs.row.share_of.Goals as goal
 use Rattle.ledger.proofs.row.share_of.Goals.{then-eq, else-eq}
@@ -11,8 +10,8 @@ returns-after-eq c =
     let k = c.class_of-class in
     a-row c.args.row.now v _ _ _ c.in-Ok.ensures.1.long c.in-Ok.ensures.1.same k.ensures
     (elim c.if-eq.branch [
-      then-eq w ↦ w.value-is ∙ w.first-value.ensures ∙ value_finite v _ k.ensures (search rules)
-    | else-eq w ↦ w.value-is ∙ value_none v _ k.ensures (search rules)
+      | then-eq w ↦ w.value-is ∙ w.first-value.ensures ∙ value_finite v _ k.ensures (search rules)
+      | else-eq w ↦ w.value-is ∙ value_none v _ k.ensures (search rules)
     ])
     c.times.ensures
 

@@ -1,6 +1,5 @@
 -- Two bytes as a number.
-use Rattle.std.proofs.Common.{ap, arith, ◌∙◌, ℕ, List, length, length-drop, length-take-le}
-use Rattle.ledger.specs.Bytes.{number}
+use Rattle.std.proofs.Common.{arith}
 use Rattle.ledger.specs.Sheet.{times_in}
 use Rattle.ledger.proofs.Words.{part_2}
 use Rattle.ledger.proofs.row.times.Goals as goal

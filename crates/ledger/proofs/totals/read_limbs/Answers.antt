@@ -1,5 +1,5 @@
 -- Limb by limb.
-use Rattle.std.proofs.Common.{◌≡◌, ◌+◌, ◌*◌, ◌≤◌, refl, sym, ap, ◌∙◌, arith, length, rules}
+use Rattle.std.proofs.Common.{◌+◌, ◌*◌, ◌≤◌, refl, sym, ap, ◌∙◌, arith, length}
 use lib.Seq.{take_all}
 use Rattle.total.specs.Total.{val}
 use Rattle.total.specs.Carry.{W}

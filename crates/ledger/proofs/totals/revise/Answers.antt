@@ -1,5 +1,5 @@
 -- Both shares are those of their rows; counts and limbs are written over the old ones.
-use Rattle.std.proofs.Common.{◌≡◌, ◌-◌, ◌<◌, ◌++◌, ◌∷◌, [], sym, ap, ◌∙◌, arith, length, rules, Some}
+use Rattle.std.proofs.Common.{◌≡◌, ◌-◌, ◌<◌, ◌++◌, ◌∷◌, [], ap, ◌∙◌, arith, length, rules}
 use Rattle.total.specs.Total.{limbs_of, add_of, take_of}
 use Rattle.laws.specs.Splice.{splice}
 use Rattle.ledger.specs.Bytes.{fields}

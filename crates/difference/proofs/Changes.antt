@@ -6,7 +6,13 @@ use Prim.Native.Nat.{ℕ}
 use borrow.Author.Tests.{eq-eqb, ne_eqb}
 use lib.Ieee.Scale.{finite}
 use Rattle.laws.specs.Arithmetic.{float}
+use Rattle.std.specs.Prelude.{Option, Some}
 use Rattle.ledger.specs.Sheet.{finite_class}
+use Rattle.ledger.specs.declared.row.Class.{Class}
+use Rattle.ledger.specs.declared.row.Class.TheVariants.{Finite}
+use Rattle.ledger.specs.Class.{class_at, class_number}
+use Rattle.ledger.specs.laws.Classes.{finite as finite_number}
+use Rattle.inspection.specs.laws.Class.{class_known}
 use Rattle.inspection.specs.Rows.{class_in, word_of}
 use Rattle.difference.specs.Steps.{steps_of}
 use Rattle.difference.specs.Difference.{agree, distance_of, change_of}
@@ -34,19 +40,19 @@ module _ (s t : List ℕ) (i : ℕ) where
   unfolding change_of
   unchanged h = rw h refl
 
-  module _ (x y : ℕ) (h : agree s t i ≡ false) (a : x ≡ class_in s i) (b : y ≡ class_in t i) where
+  module _ (x y : Option Class) (h : agree s t i ≡ false) (a : x ≡ class_at (class_in s i)) (b : y ≡ class_at (class_in t i)) where
     pub moved : (x ≡ y → ⊥) → Moved x y ≡ change_of s t i
     unfolding change_of
-    moved n = rw (h, ne_eqb (class_in s i) (class_in t i) (λ e. n (a ∙ e ∙ sym b))) (λ j. Moved (a j) (b j))
+    moved n = rw (h, ne_eqb (class_in s i) (class_in t i) (λ e. n (a ∙ ap class_at e ∙ sym b))) (λ j. Moved (a j) (b j))
 
     module _ (e : x ≡ y) where
       same_class : class_in s i ≡ class_in t i
-      same_class = sym a ∙ e ∙ b
+      same_class = sym (class_known s i) ∙ ap class_number (sym a ∙ e ∙ b) ∙ class_known t i
 
-      pub alike : (x ≡ 1 → ⊥) → Alike x ≡ change_of s t i
-      unfolding change_of
-      alike n = rw (h, eq-eqb (class_in s i) (class_in t i) same_class, ne_eqb (class_in s i) finite_class (λ z. n (a ∙ z))) (ap Alike a)
+      pub alike : (x ≡ Some Finite → ⊥) → Alike x ≡ change_of s t i
+      unfolding change_of class_at
+      alike n = rw (h, eq-eqb (class_in s i) (class_in t i) same_class, ne_eqb (class_in s i) finite_class (λ z. n (a ∙ ap class_at z))) (ap Alike a)
 
-      pub far : x ≡ 1 → (r : Change) → r ≡ distance_of s t i → r ≡ change_of s t i
+      pub far : x ≡ Some Finite → (r : Change) → r ≡ distance_of s t i → r ≡ change_of s t i
       unfolding change_of
-      far z r d = rw (h, eq-eqb (class_in s i) (class_in t i) same_class, eq-eqb (class_in s i) finite_class (sym a ∙ z)) d
+      far z r d = rw (h, eq-eqb (class_in s i) (class_in t i) same_class, eq-eqb (class_in s i) finite_class (finite_number (class_in s i) (sym a ∙ z))) d

@@ -5,6 +5,7 @@ use Rattle.laws.specs.Arithmetic.{float}
 use Rattle.laws.specs.Ladder.{when◌gives◌else◌}
 use Rattle.total.specs.Total.{N, Half}
 use Rattle.ledger.specs.Sheet.{finite_class}
+use Rattle.ledger.specs.Class.{class_at}
 use Rattle.ledger.specs.Calls.{rows_in, equal, is_sheet, read_of, exact_of}
 use Rattle.inspection.specs.Rows.{first_rejected, class_in, word_of}
 use Rattle.difference.specs.Steps.{steps_of}
@@ -56,8 +57,8 @@ distance_of s t i =
 unfoldable pub change_of : List ℕ → List ℕ → ℕ → Change
 change_of s t i =
     when agree s t i gives Same else
-    when not (eqb (class_in s i) (class_in t i)) gives Moved (class_in s i) (class_in t i) else
-    when not (eqb (class_in s i) finite_class) gives Alike (class_in s i) else
+    when not (eqb (class_in s i) (class_in t i)) gives Moved (class_at (class_in s i)) (class_at (class_in t i)) else
+    when not (eqb (class_in s i) finite_class) gives Alike (class_at (class_in s i)) else
     distance_of s t i
 
 -- how many rows a sheet has; other bytes have none

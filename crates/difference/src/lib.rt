@@ -10,6 +10,7 @@ ghost use Rattle.ledger.specs.Calls.{is_sheet};
 ghost use Rattle.difference.specs.Steps.{steps_of};
 ghost use Rattle.difference.specs.Difference.{rejected_of, stop_of, agree, distance_of, change_of, rows_of, changes, growth_of, below_zero};
 
+use ledger::Class;
 use limbs::{minus, raised};
 use total::Signed;
 
@@ -38,14 +39,24 @@ pub enum Stop {
 pub enum Change {
     // Not: its 48 bytes agree.
     Same,
-    // From one class to another, as ledger's `count` numbers them.
-    Moved { from: usize, to: usize },
+    // From one class to another; a row that is damaged has none.
+    Moved {
+        from: Option<Class>,
+        to: Option<Class>,
+    },
     // The same class, and its answers are not finite.
-    Alike { class: usize },
+    Alike {
+        class: Option<Class>,
+    },
     // Both first answers are finite, so many steps apart, and a second one is not.
-    First { first: u64 },
+    First {
+        first: u64,
+    },
     // All are finite.
-    Steps { first: u64, second: u64 },
+    Steps {
+        first: u64,
+        second: u64,
+    },
 }
 
 // The sign's place in a bit pattern.
@@ -127,12 +138,12 @@ pub fn changed(old: &[u8], new: &[u8], row: u32) -> Change
     if agreeing(old, new, row) {
         return Change::Same;
     }
-    let from = ledger::class_number(inspection::row_class(old, row));
-    let to = ledger::class_number(inspection::row_class(new, row));
+    let from = inspection::row_class(old, row);
+    let to = inspection::row_class(new, row);
     if from != to {
         return Change::Moved { from, to };
     }
-    if from != 1 {
+    if from != Some(Class::Finite) {
         return Change::Alike { class: from };
     }
     distance(old, new, row)

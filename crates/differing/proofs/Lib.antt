@@ -1,3 +1,2 @@
 -- Arguments that several proofs share.
 pub mod Pieces
-pub mod Classes

@@ -1,8 +1,10 @@
 -- What legdiff prints (02, [5]): for each row that differs a line, and the end; or why it refuses. s is the old sheet, t the new one. Definitions only.
-use Rattle.std.specs.Prelude.{ℕ, zero, suc, List, [], ◌++◌, eqb, ℤ, nat_abs}
+use Rattle.std.specs.Prelude.{ℕ, zero, suc, Option, Some, None, List, [], ◌++◌, ℤ, nat_abs}
 use Rattle.laws.specs.Ascii.{ascii}
 use Rattle.laws.specs.Ladder.{when◌gives◌else◌}
-use Rattle.ledger.specs.Sheet.{Row, function_in, refusal_in, blank_class, finite_class, plus∞Class, minus∞Class, refused_class}
+use Rattle.ledger.specs.declared.row.Class.{Class}
+use Rattle.ledger.specs.declared.row.Class.TheVariants.{Blank, Finite, PlusInfinity, MinusInfinity, Refused}
+use Rattle.ledger.specs.Sheet.{Row, function_in, refusal_in}
 use Rattle.ledger.specs.Calls.{rows_in, read_of, times_of}
 use Rattle.inspection.specs.Rows.{word_of}
 use Rattle.text.specs.Text.{decimal, pattern, space, end}
@@ -42,18 +44,17 @@ side_of s i = head_of (read_of s i) ++ arguments_of s i ++ field (times_of s i)
 -- ---- how it differs
 
 -- 01's five classes; a row that is damaged has none
-unfoldable pub class_text : ℕ → List ℕ
-class_text k =
-    when eqb k blank_class gives ascii "blank" else
-    when eqb k finite_class gives ascii "finite" else
-    when eqb k plus∞Class gives ascii "+inf" else
-    when eqb k minus∞Class gives ascii "-inf" else
-    when eqb k refused_class gives ascii "refused" else
-    ascii "none"
+unfoldable pub class_text : Option Class → List ℕ
+class_text (Some Blank) = ascii "blank"
+class_text (Some Finite) = ascii "finite"
+class_text (Some PlusInfinity) = ascii "+inf"
+class_text (Some MinusInfinity) = ascii "-inf"
+class_text (Some Refused) = ascii "refused"
+class_text None = ascii "none"
 
 -- words and a class
-unfoldable pub named_class : List ℕ → ℕ → List ℕ
-named_class words k = words ++ class_text k
+unfoldable pub named_class : List ℕ → Option Class → List ℕ
+named_class words c = words ++ class_text c
 
 -- how far apart, from what class to what, or the same one
 unfoldable pub change_text : Change → List ℕ

@@ -5,34 +5,27 @@ ghost use Rattle.text.specs.Writing.{Put};
 ghost use Rattle.differing.specs.Differing.{class_text, named_class, change_text};
 
 use difference::Change;
+use ledger::Class;
 use text::{put_bytes, put_decimal};
 
-// The class's name.
-fn put_class(out: &mut [u8], at: usize, class: usize) -> usize
+// The class's name; a row that is damaged has none.
+fn put_class(out: &mut [u8], at: usize, class: Option<Class>) -> usize
     requires { at + 7 ≤ length out.old }
     ensures put { Put out.old out.new at result (class_text class) }
     ensures upper_bound { result ≤ at + 7 }
 {
-    if class == 0 {
-        return put_bytes(out, at, b"blank");
+    match class {
+        Some(Class::Blank) => put_bytes(out, at, b"blank"),
+        Some(Class::Finite) => put_bytes(out, at, b"finite"),
+        Some(Class::PlusInfinity) => put_bytes(out, at, b"+inf"),
+        Some(Class::MinusInfinity) => put_bytes(out, at, b"-inf"),
+        Some(Class::Refused) => put_bytes(out, at, b"refused"),
+        None => put_bytes(out, at, b"none"),
     }
-    if class == 1 {
-        return put_bytes(out, at, b"finite");
-    }
-    if class == 2 {
-        return put_bytes(out, at, b"+inf");
-    }
-    if class == 3 {
-        return put_bytes(out, at, b"-inf");
-    }
-    if class == 4 {
-        return put_bytes(out, at, b"refused");
-    }
-    put_bytes(out, at, b"none")
 }
 
 // Words and a class.
-fn put_named(out: &mut [u8], at: usize, words: &[u8], class: usize) -> usize
+fn put_named(out: &mut [u8], at: usize, words: &[u8], class: Option<Class>) -> usize
     requires { at + length words.now + 7 ≤ length out.old }
     ensures put { Put out.old out.new at result (named_class words.now class) }
     ensures upper_bound { result ≤ at + length words.now + 7 }
@@ -41,7 +34,7 @@ fn put_named(out: &mut [u8], at: usize, words: &[u8], class: usize) -> usize
     put_class(out, a, class)
 }
 
-fn put_moved(out: &mut [u8], at: usize, from: usize, to: usize) -> usize
+fn put_moved(out: &mut [u8], at: usize, from: Option<Class>, to: Option<Class>) -> usize
     requires { at + 24 ≤ length out.old }
     ensures put { Put out.old out.new at result (change_text (Moved from to)) }
     ensures upper_bound { result ≤ at + 24 }
@@ -51,7 +44,7 @@ fn put_moved(out: &mut [u8], at: usize, from: usize, to: usize) -> usize
     put_bytes(out, b, b"\n")
 }
 
-fn put_alike(out: &mut [u8], at: usize, class: usize) -> usize
+fn put_alike(out: &mut [u8], at: usize, class: Option<Class>) -> usize
     requires { at + 13 ≤ length out.old }
     ensures put { Put out.old out.new at result (change_text (Alike class)) }
     ensures upper_bound { result ≤ at + 13 }

@@ -1,7 +1,6 @@
 -- A row is found, or none.
-use Rattle.std.proofs.Common.{refl, ap, Err}
+use Rattle.std.proofs.Common.{refl}
 use Rattle.inspection.specs.laws.Rejected.{row_rejected, none_rejected}
-use Rattle.difference.specs.declared.Stop.TheVariants.{Damaged}
 use Rattle.difference.specs.Difference.{rejected_of}
 use Rattle.difference.proofs.rows_taken.Goals as goal
 

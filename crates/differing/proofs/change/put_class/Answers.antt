@@ -1,42 +1,42 @@
 -- The words of the class.
-use Rattle.laws.specs.Ascii.{ascii}
 use native.Mathlib.Omega.{arith}
+use Rattle.std.proofs.Common.{◌≡◌, Some, rules}
+use Rattle.ledger.specs.declared.row.Class.TheVariants.{Blank, Finite, PlusInfinity, MinusInfinity, Refused}
+use Rattle.laws.specs.Ascii.{ascii}
+use Rattle.differing.specs.Differing.{class_text}
 use Rattle.differing.proofs.Pieces.{words_put}
-use Rattle.differing.proofs.Classes.{is_blank, is_finite, is_plus, is_minus, is_refused_lem, is_none}
 use Rattle.differing.proofs.change.put_class.Goals as goal
 
-pub returns-then-class-eq0 : goal.returns-then-class-eq0
-returns-then-class-eq0 c =
-    let a = c.args in
-    let p = words_put a.out.now a.at 7 (ascii "blank") (omega arith) (omega arith) c.put_bytes.ensures in
-    record { put = rw (is_blank a.class c.if-class-eq0.true) p.0; upper_bound = p.1 }
+pub returns-in-Some-Blank-clause-put : goal.returns-in-Some-Blank-clause-put
+unfolding class_text
+returns-in-Some-Blank-clause-put c =
+    let e : c.args.class ≡ Some Blank = search rules in
+    rw e (words_put _ _ 7 (ascii "blank") (omega arith) (omega arith) c.put_bytes.ensures).0
 
-pub returns-then-class-eq1 : goal.returns-then-class-eq1
-returns-then-class-eq1 c =
-    let a = c.args in
-    let p = words_put a.out.now a.at 7 (ascii "finite") (omega arith) (omega arith) c.put_bytes-then-class-eq1.ensures in
-    record { put = rw (is_finite a.class c.if-class-eq0.false c.if-class-eq1.true) p.0; upper_bound = p.1 }
+pub returns-in-Some-Finite-clause-put : goal.returns-in-Some-Finite-clause-put
+unfolding class_text
+returns-in-Some-Finite-clause-put c =
+    let e : c.args.class ≡ Some Finite = search rules in
+    rw e (words_put _ _ 7 (ascii "finite") (omega arith) (omega arith) c.put_bytes-in-Some-Finite.ensures).0
 
-pub returns-then-class-eq2 : goal.returns-then-class-eq2
-returns-then-class-eq2 c =
-    let a = c.args in
-    let p = words_put a.out.now a.at 7 (ascii "+inf") (omega arith) (omega arith) c.put_bytes-then-class-eq2.ensures in
-    record { put = rw (is_plus a.class c.if-class-eq0.false c.if-class-eq1.false c.if-class-eq2.true) p.0; upper_bound = p.1 }
+pub returns-in-Some-PlusInfinity-clause-put : goal.returns-in-Some-PlusInfinity-clause-put
+unfolding class_text
+returns-in-Some-PlusInfinity-clause-put c =
+    let e : c.args.class ≡ Some PlusInfinity = search rules in
+    rw e (words_put _ _ 7 (ascii "+inf") (omega arith) (omega arith) c.put_bytes-in-Some-PlusInfinity.ensures).0
 
-pub returns-then-class-eq3 : goal.returns-then-class-eq3
-returns-then-class-eq3 c =
-    let a = c.args in
-    let p = words_put a.out.now a.at 7 (ascii "-inf") (omega arith) (omega arith) c.put_bytes-then-class-eq3.ensures in
-    record { put = rw (is_minus a.class c.if-class-eq0.false c.if-class-eq1.false c.if-class-eq2.false c.if-class-eq3.true) p.0; upper_bound = p.1 }
+pub returns-in-Some-MinusInfinity-clause-put : goal.returns-in-Some-MinusInfinity-clause-put
+unfolding class_text
+returns-in-Some-MinusInfinity-clause-put c =
+    let e : c.args.class ≡ Some MinusInfinity = search rules in
+    rw e (words_put _ _ 7 (ascii "-inf") (omega arith) (omega arith) c.put_bytes-in-Some-MinusInfinity.ensures).0
 
-pub returns-then-class-eq4 : goal.returns-then-class-eq4
-returns-then-class-eq4 c =
-    let a = c.args in
-    let p = words_put a.out.now a.at 7 (ascii "refused") (omega arith) (omega arith) c.put_bytes-then-class-eq4.ensures in
-    record { put = rw (is_refused_lem a.class c.if-class-eq0.false c.if-class-eq1.false c.if-class-eq2.false c.if-class-eq3.false c.if-class-eq4.true) p.0; upper_bound = p.1 }
+pub returns-in-Some-Refused-clause-put : goal.returns-in-Some-Refused-clause-put
+unfolding class_text
+returns-in-Some-Refused-clause-put c =
+    let e : c.args.class ≡ Some Refused = search rules in
+    rw e (words_put _ _ 7 (ascii "refused") (omega arith) (omega arith) c.put_bytes-in-Some-Refused.ensures).0
 
-pub returns : goal.returns
-returns c =
-    let a = c.args in
-    let p = words_put a.out.now a.at 7 (ascii "none") (omega arith) (omega arith) c.put_bytes-2.ensures in
-    record { put = rw (is_none a.class c.if-class-eq0.false c.if-class-eq1.false c.if-class-eq2.false c.if-class-eq3.false c.if-class-eq4.false) p.0; upper_bound = p.1 }
+pub returns-in-None-clause-put : goal.returns-in-None-clause-put
+unfolding class_text
+returns-in-None-clause-put c = rw c.in-None.is (words_put _ _ 7 (ascii "none") (omega arith) (omega arith) c.put_bytes-in-None.ensures).0

@@ -1,14 +1,13 @@
 // Hex text read into a sheet file (02, [10]).
 #![tactic(auto)]
 
-use files::Source;
+use files::{Program, Source};
 
 fn main(rt: HostRuntime) {
-    reading::run(
-        &rt,
-        b"legread",
-        b"legread FILE",
-        Source::Standard,
-        files::STDOUT,
-    );
+    let program = Program {
+        rt: &rt,
+        name: b"legread",
+        output: files::STDOUT,
+    };
+    reading::run(program, b"legread FILE", Source::Standard);
 }

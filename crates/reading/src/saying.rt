@@ -28,7 +28,7 @@ fn put_18(rt: &HostRuntime, out: Output, line: u64, column: u64) -> Output
 {
     let mut text = [0u8; 65];
     let n = put_place(&mut text, line, column);
-    files::put(rt, out, &text[0..n])
+    out.put(rt, &text[0..n])
 }
 
 pub(crate) fn put_halt(rt: &HostRuntime, out: Output, h: Halt) -> Output

@@ -1,23 +1,13 @@
 -- Another number of words, or the file.
-use mir.Syntax.{w32}
-use mir.ValLaws.{to_z-of_z}
-use mathlib.Core.Path.{subst}
+use Rattle.std.proofs.Common.{subst}
 use Rattle.files.specs.Calls.{Counts}
-use Rattle.files.specs.Notes.{usage_line}
-use Rattle.files.specs.declared.sending.Output.{Output}
-use Rattle.files.specs.Output.{Wrote}
 use Rattle.reading.specs.Taken.{called_wrong, called}
 use Rattle.reading.proofs.run.Goals as goal
 
 pub returns-then-word_count-ne2 : goal.returns-then-word_count-ne2
 returns-then-word_count-ne2 c =
     let n = c.word_count in
-    called_wrong n.result c.usage.result n.ensures c.if-word_count-ne2.true
-    (subst (λ (o : Output). Wrote o (usage_line c.args.call.now) c.usage.result) (rw (to_z-of_z w32 c.args.output c.ranges.output) at c.begin.ensures) c.usage.ensures)
+    called_wrong n.result c.usage.result n.ensures c.if-word_count-ne2.true c.usage.ensures
 
 pub returns : goal.returns
-returns c =
-    let n = c.word_count in
-    let w = c.word-name in
-    let r = c.read_input-end in
-    called _ (subst (Counts) c.if-word_count-ne2.false n.ensures) w.ensures.called r.result (rw (to_z-of_z w32 c.args.output c.ranges.output) at r.ensures)
+returns c = called _ (subst Counts c.if-word_count-ne2.false c.word_count.ensures) c.word-name.ensures.called c.read_input-end.result c.read_input-end.ensures

@@ -9,7 +9,7 @@ pub returns-in-Err : goal.returns-in-Err
 unfolding halt_of
 returns-in-Err c =
     let h = c.in-Err.ensures in
-    record { text = _; settled = refused (λ e. numbered c.in-Err.halt.refusal (ap (λ (x : Halted). x.refusal) h.0 ∙ e)) (ap halt_line h.0); wrote = c.put_halt.ensures }
+    record { text = _; settled = refused (λ e. numbered c.in-Err.halt.refusal (ap (λ (x : Halted). x.refusal) h.0 ∙ e)) (ap halt_line h.0); wrote = rw c.begin-out.ensures at c.put_halt.ensures }
 
 pub save_sheet-requires : goal.save_sheet-requires
 unfolding halt_of
@@ -17,15 +17,15 @@ save_sheet-requires c =
     let h = c.in_default.ensures in
     record { text = c.args.text.now; taken = ap (λ (x : Halted). x.refusal) (sym h.0); is = h.1 }
 
-pub returns-then-not-save_sheet : goal.returns-then-not-save_sheet
+pub returns-then-is_err : goal.returns-then-is_err
 unfolding halt_of
-returns-then-not-save_sheet c =
+returns-then-is_err c =
     let h = c.in_default.ensures in
     let k = c.save_sheet in
     record {
       text = _;
-      settled = unwritten (ap (λ (x : Halted). x.refusal) (sym h.0)) (rw (h.1, c.if-not-save_sheet.true) at k.ensures) refl;
-      wrote = c.cannot_write.ensures;
+      settled = unwritten (ap (λ (x : Halted). x.refusal) (sym h.0)) (rw (h.1, c.if-is_err.ensures.negation) at k.ensures) refl;
+      wrote = rw c.begin-out.ensures at c.cannot_write.ensures;
     }
 
 pub returns : goal.returns
@@ -35,6 +35,6 @@ returns c =
     let k = c.save_sheet in
     record {
       text = _;
-      settled = written (ap (λ (x : Halted). x.refusal) (sym h.0)) (rw (h.1, c.if-not-save_sheet.false) at k.ensures) refl;
-      wrote = rw (c.rows_in.ensures, h.1) at c.put_number.ensures;
+      settled = written (ap (λ (x : Halted). x.refusal) (sym h.0)) (rw (h.1, c.if-is_err.ensures.negation) at k.ensures) refl;
+      wrote = rw (c.rows_in.ensures, h.1, c.begin-out.ensures) at c.put_number.ensures;
     }

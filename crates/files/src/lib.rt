@@ -5,7 +5,6 @@
 mod calling;
 mod closing;
 mod naming;
-mod older;
 mod program;
 mod reading;
 mod saving;
@@ -14,7 +13,6 @@ mod sending;
 
 pub use calling::{WORD, word, word_count};
 pub use closing::close;
-pub use older::{begin, cannot_write, put, put_note, tell, usage};
 pub use program::Program;
 pub use reading::{Source, call_read, count, read_some};
 pub use saving::{Unsaved, save};

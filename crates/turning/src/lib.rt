@@ -8,6 +8,7 @@ ghost use Rattle.files.specs.Save.{Save};
 ghost use Rattle.files.specs.Output.{output_of, Wrote};
 ghost use Rattle.turning.specs.Turning.{stop_line, Converted, Answered, Done, Ran};
 
+use answer::Refusal;
 use conversion::Stop;
 pub use conversion::Way;
 use files::{Output, Program, Unsaved, WORD};
@@ -17,17 +18,12 @@ use loading::{MOST, put_number};
 fn put_stop(rt: &HostRuntime, out: Output, stop: Stop, rows: u64) -> Output
     ensures { Wrote out (stop_line (stopped (number stop.refusal) stop.row) rows) result }
 {
-    let refusal = stop.refusal.number();
-    if refusal == 7 {
-        return loading::refused_7(rt, out);
+    match stop.refusal {
+        Refusal::NotASheet => loading::refused_7(rt, out),
+        Refusal::DrivenOften => put_number(rt, out, b"refused 17 row ", stop.row as u64),
+        _ if stop.row as u64 == rows => out.put(rt, b"refused 10 counts\n"),
+        _ => put_number(rt, out, b"refused 10 row ", stop.row as u64),
     }
-    if refusal == 17 {
-        return put_number(rt, out, b"refused 17 row ", stop.row as u64);
-    }
-    if stop.row as u64 == rows {
-        return out.put(rt, b"refused 10 counts\n");
-    }
-    put_number(rt, out, b"refused 10 row ", stop.row as u64)
 }
 
 // The one call that writes a file: with a sheet that was accepted, and converted. So where a sheet is refused no file is written.

@@ -3,7 +3,7 @@ ghost use Rattle.std.specs.Prelude.{◌≡◌, ℕ, Bool};
 ghost use Rattle.laws.specs.Arithmetic.{float};
 ghost use Rattle.month.specs.Month.{beyond, extreme_on};
 
-use super::parts::{Extreme, Share};
+use super::parts::{Extreme, FINITE, Share};
 
 // The extreme, or the share's answer where `passes` says that it lies strictly beyond it.
 pub(crate) fn extreme_on<F: Fn(f64, f64) -> bool>(
@@ -14,7 +14,7 @@ pub(crate) fn extreme_on<F: Fn(f64, f64) -> bool>(
     requires { F.IsAlwaysCallable passes }
     ensures { (top : Bool) → ((p q : ℕ) (b : Bool) → F.post passes (float p) (float q) b → b ≡ beyond top p q) → result ≡ extreme_on top extreme share }
 {
-    if share.class != 1 {
+    if share.class != FINITE {
         return extreme;
     }
     if let Some(held) = extreme {

@@ -11,6 +11,7 @@ ghost use Rattle.ledger.specs.Calls.{is_sheet};
 ghost use Rattle.month.specs.Month.{stop_of, one_more, share_on, legs_of, legs_on, start_of, added_of};
 
 use extreme::extreme_on;
+use parts::REFUSED;
 pub use parts::{Extreme, Report, Share, Stop};
 use share::share_of;
 use total::Total;
@@ -57,7 +58,7 @@ impl Report {
         ensures { self.new ≡ share_on self.old share }
     {
         count_up(&mut self.counts, share.class);
-        if share.class == 4 {
+        if share.class == REFUSED {
             count_up(&mut self.refusals, share.refusal as usize);
         }
         self.total = self.total.add(share.value, share.times);

@@ -1,6 +1,11 @@
 // What a report and its steps hold. (A function and a struct of one name do not stand in one file.)
 use total::Total;
 
+// The numbers of two classes, as `ledger::class_number` gives them.
+pub(crate) const FINITE: usize = 1;
+
+pub(crate) const REFUSED: usize = 4;
+
 // Why a file is not taken.
 #[derive(Clone, Copy)]
 pub enum Stop {
@@ -33,6 +38,7 @@ pub struct Report {
 // What a leg brings to the report.
 #[derive(Clone, Copy)]
 pub struct Share {
+    // Kept: a number, 5 for none: it is the place among `counts` (`share_on` of month/specs), and as an `Option<Class>` it would be made that number there again.
     pub class: usize,
     pub refusal: u8,
     pub times: u16,

@@ -20,19 +20,19 @@ module _ (top : Bool) (e : Option Extreme) (h : Share) where
     unfolding extreme_on
     takes s = rw (eq-eqb h.class 1 c, s) refl
 
-pub returns-then-share-ne1 : goal.returns-then-share-ne1
-returns-then-share-ne1 g c = λ top f. other top c.args.extreme c.args.share c.if-share-ne1.true
+pub returns-then-share-ne-FINITE : goal.returns-then-share-ne-FINITE
+returns-then-share-ne-FINITE g c = λ top f. other top c.args.extreme c.args.share c.if-share-ne-FINITE.true
 
 pub returns-then-not-passes : goal.returns-then-not-passes
 returns-then-not-passes g c = λ top f.
     rw (← c.in-Some.is)
-    (keeps top c.args.extreme c.args.share c.if-share-ne1.false
+    (keeps top c.args.extreme c.args.share c.if-share-ne-FINITE.false
     (ap (λ e. stays top e c.args.share.pattern) c.in-Some.is ∙ ap not (sym (f _ _ _ (rw (c.from_pattern.ensures, c.from_pattern-next.ensures) at c.passes.ensures)) ∙ c.if-not-passes.true)))
 
 pub returns : goal.returns
 returns g c = λ top f. elim c.match-extreme.branch [
   | in-Some+else-not-passes w ↦
-      takes top c.args.extreme c.args.share c.if-share-ne1.false
+      takes top c.args.extreme c.args.share c.if-share-ne-FINITE.false
       (ap (λ e. stays top e c.args.share.pattern) w.in-Some.is ∙ ap not (sym (f _ _ _ (rw (w.from_pattern.ensures, w.from_pattern-next.ensures) at w.passes.ensures)) ∙ w.if-not-passes.false))
-  | in_default w ↦ takes top c.args.extreme c.args.share c.if-share-ne1.false (ap (λ e. stays top e c.args.share.pattern) w.in_default.is)
+  | in_default w ↦ takes top c.args.extreme c.args.share c.if-share-ne-FINITE.false (ap (λ e. stays top e c.args.share.pattern) w.in_default.is)
 ]

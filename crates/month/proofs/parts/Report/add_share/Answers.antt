@@ -7,7 +7,7 @@ use Rattle.month.specs.declared.parts.Report.{Report}
 use Rattle.month.specs.declared.parts.Share.{Share}
 use Rattle.month.specs.Month.{one_more, refusals_on, extreme_on, share_on, beyond}
 use Rattle.month.proofs.parts.Report.add_share.Goals as goal
-use Rattle.month.proofs.parts.Report.add_share.Goals.{then-share-eq4, else-share-eq4}
+use Rattle.month.proofs.parts.Report.add_share.Goals.{then-share-eq-REFUSED, else-share-eq-REFUSED}
 
 -- a report whose rows are counted
 counted : Report → List ℕ → List ℕ → Report
@@ -41,8 +41,8 @@ unfolding beyond counted
 returns c =
     let r = c.args.self.now in
     let h = c.args.share in
-    let e : c.if-share-eq4.self ≡ counted r (one_more r.counts h.class) (refusals_on r.refusals h) = elim c.if-share-eq4.branch [
-      | then-share-eq4 w ↦ w.self-is ∙ refused r h _ c.count_up.ensures _ w.if-share-eq4.true w.count_up-then-share-eq4.ensures
-      | else-share-eq4 w ↦ w.self-is ∙ unrefused r h _ c.count_up.ensures w.if-share-eq4.false
+    let e : c.if-share-eq-REFUSED.self ≡ counted r (one_more r.counts h.class) (refusals_on r.refusals h) = elim c.if-share-eq-REFUSED.branch [
+      | then-share-eq-REFUSED w ↦ w.self-is ∙ refused r h _ c.count_up.ensures _ w.if-share-eq-REFUSED.true w.count_up-then-share-eq-REFUSED.ensures
+      | else-share-eq-REFUSED w ↦ w.self-is ∙ unrefused r h _ c.count_up.ensures w.if-share-eq-REFUSED.false
     ] in
     whole r _ h _ _ _ e c.add-self.ensures.1 (c.extreme_on-self.ensures true (λ p q b h. search rules)) (c.extreme_on-self-2.ensures false (λ p q b h. search rules))

@@ -36,6 +36,7 @@ fn put_text(out: &mut [u8], old: &[u8], new: &[u8], row: u32) -> usize
 }
 
 // The row's line at the start of the buffer: its length, 0 where its bytes agree.
+// Kept: the answer is a length, as the clauses put and upper_bound say; where the bytes agree there is no line.
 pub fn put_line(out: &mut [u8; LINE], old: &[u8], new: &[u8], row: u32) -> usize
     ensures put { Put out.old out.new 0 result (line_of old.now new.now row) }
     ensures upper_bound { result ≤ length out.new }
@@ -59,6 +60,7 @@ fn put_sums(out: &mut [u8], growth: Signed, rows: u32) -> usize
 }
 
 // What stands after the last row's line, at the start of the buffer: its length.
+// Kept: the answer is a length, as the clauses put and upper_bound say.
 pub fn put_end(out: &mut [u8; LINE], old: &[u8], new: &[u8]) -> usize
     ensures put { Put out.old out.new 0 result (end_of old.now new.now) }
     ensures upper_bound { result ≤ length out.new }

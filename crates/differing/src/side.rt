@@ -6,6 +6,7 @@ ghost use Rattle.differing.specs.Differing.{head_of, arguments_of, side_of};
 use text::{put_decimal, put_pattern};
 
 // Byte k of a row; 0 where it can't be read.
+// Kept: 0 is what `head_of` says of a row that can't be read.
 fn byte_of(row: &[u8], k: usize) -> u8
     ensures { result ≡ get_or row.now k 0 }
 {

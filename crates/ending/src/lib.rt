@@ -15,6 +15,7 @@ pub use outcome::{Legs, Page, State, bytes, put_instead};
 use page::{LARGEST, ROOM};
 
 // The text, once the file is saved; where it could not be, that alone. The Err has the file's name.
+// Kept: `failed` picks no other step; it is told beside the text.
 pub fn write_run(
     program: Program<'_>,
     saved: Result<(), &[u8]>,

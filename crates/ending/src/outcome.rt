@@ -48,6 +48,7 @@ pub fn bytes(st: State, sheet: &[u8; LARGEST]) -> &[u8]
 }
 
 // The line that is printed instead of a page, where a line was bad, or a read failed, which is the Err, at the start of the buffer: its length.
+// Kept: the answer is a length, as the clauses put and upper_bound say.
 pub fn put_instead(end: Result<State, State>, out: &mut [u8; ROOM]) -> usize
     ensures put { Put out.old out.new 0 result (instead_of (is_err end) (state_of end).lines) }
     ensures upper_bound { result ≤ length out.new }
@@ -59,6 +60,7 @@ pub fn put_instead(end: Result<State, State>, out: &mut [u8; ROOM]) -> usize
 }
 
 // What is printed in the end, at the start of the buffer: its length. After a failed read nothing of the sheet is printed.
+// Kept: the answer is a length, as the clauses put and upper_bound say.
 pub(crate) fn put_text<P: Page>(
     end: Result<State, State>,
     sheet: &[u8; LARGEST],

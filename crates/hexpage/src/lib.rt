@@ -63,6 +63,7 @@ pub fn put_row(out: &mut [u8; LINE], sheet: &[u8], i: u32) -> usize
 }
 
 // The first line, at the start of the buffer: its length.
+// Kept: the answer is a length, as the clauses put and upper_bound say.
 pub fn put_count(out: &mut [u8; LINE], sheet: &[u8]) -> usize
     ensures put { Put out.old out.new 0 result (count_line sheet.now) }
     ensures upper_bound { result ≤ length out.new }

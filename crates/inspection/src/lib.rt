@@ -38,6 +38,7 @@ pub fn row_class(sheet: &[u8], row: u32) -> Option<Class>
 }
 
 // Word k of the row: function, refusal number and times (0), the arguments (1 to 3) and the answers (4 and 5) as bit patterns; 0 where there is no such word or the row can't be read.
+// Kept: it can't fail, and its clause, `word_of`, says 0 there.
 pub fn row_word(sheet: &[u8], row: u32, k: usize) -> u64
     ensures { result ≡ word_of sheet.now row k }
 {

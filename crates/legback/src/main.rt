@@ -4,6 +4,7 @@
 use files::Program;
 use turning::Way;
 
+// Kept: the mains of the programs are alike, and what differs, names and calls, is all that they say.
 fn main(rt: HostRuntime) {
     let program = Program {
         rt: &rt,

@@ -39,6 +39,7 @@ pub fn read_whole<'a>(
     ensures upper_bound { MatchResult result (λ b. length b.now ≤ length into.old) (λ b. length b.now ≤ length into.old) }
 {
     let mut at: usize = 0;
+    // Kept: no index is counted by hand: each read says how far it goes.
     while at < into.len() {
         let got = read_at(rt, file, into, at);
         if got.is_none() {

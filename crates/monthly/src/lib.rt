@@ -59,6 +59,7 @@ fn put_lines(out: &mut [u8], report: Report, apart: u64) -> usize
 }
 
 // The whole report at the start of the buffer: its length. `apart`: how many files were not taken.
+// Kept: the answer is a length, as the clauses put and upper_bound say.
 pub fn put_report(out: &mut [u8; ROOM], report: Report, apart: u64) -> usize
     ensures put { Put out.old out.new 0 result (report_text apart report) }
     ensures upper_bound { result ≤ length out.new }

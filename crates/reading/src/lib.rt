@@ -26,6 +26,7 @@ use saying::put_halt;
 pub const MOST_TEXT: usize = 290822;
 
 // How many bytes the text's sheet has; none where there is no such sheet.
+// Kept: a length that can't fail: `lent_for` lends no byte where there is no such sheet.
 fn lent(text: &[u8]) -> usize
     ensures { (result ≡ lent_for (count_of (part_at 10 text.now 0))) × (result ≤ largest) }
 {

@@ -160,9 +160,7 @@ fn run(rt: &HostRuntime, line: &mut [u8], buffer: &mut [u8]) -> State
         wrong: 0,
         first: None,
     };
-    let mut turns = u64::MAX;
-    while turns > 0 {
-        turns -= 1;
+    for turns in (0..u64::MAX).rev() {
         let t = turn(rt, turns, st, line, buffer);
         st = t.st;
         if !t.more {

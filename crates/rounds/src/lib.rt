@@ -41,6 +41,7 @@ fn put_line(out: &mut [u8], at: usize, sheet: &[u8], i: u32) -> usize
 }
 
 // The whole page at the start of the buffer: its length.
+// Kept: the answer is a length, as the clauses put and upper_bound say.
 pub fn put_rounds(out: &mut [u8; ROOM], sheet: &[u8]) -> usize
     ensures put { Put out.old out.new 0 result (rounds_page sheet.now) }
     ensures upper_bound { result ≤ length out.new }

@@ -10,6 +10,7 @@ use ledger::MOST_ROWS;
 use sheet::Entry;
 
 // The state where there is a sheet, after line number lines, with nothing of the next one held.
+// Kept: `bad` is a field of State, which `between` of the specs takes.
 pub(crate) fn between(lines: u64, size: usize, bad: bool) -> State
     ensures { result ≡ Machine·between lines size bad }
 {

@@ -74,6 +74,7 @@ fn read_all(
 {
     let mut st = from;
     let mut left = u64::MAX;
+    // Kept: no index is counted by hand: each read says how far it goes.
     while 0 < left {
         match read_part(rt, input, &mut left, st, line, sheet) {
             Turn::More(next) => st = next,

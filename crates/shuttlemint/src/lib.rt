@@ -25,6 +25,7 @@ use conversion::{Stop, Way};
 use sheet::Entry;
 
 // The number of what refuses a conversion, 0 where nothing does, and the row that it is about.
+// Kept: the C interface, whose numbers these are.
 fn stop_number(done: Result<(), Stop>) -> u8
     ensures { result ≡ (stopped_of done).refusal }
 {
@@ -97,6 +98,7 @@ pub extern "C" fn sm_remainder(x: u64, y: u64) -> u64
 }
 
 // Sine, cosine and logarithm: a refused argument has NaN for its value.
+// Kept: the C interface has a name for each.
 #[unsafe(no_mangle)]
 pub extern "C" fn sm_sine(x: u64) -> u64
     ensures { result ≡ to_bits binary64 (value_of (sine_of (of_bits binary64 x))) }
@@ -104,6 +106,7 @@ pub extern "C" fn sm_sine(x: u64) -> u64
     bits::to_pattern(answer::value(angle::sine(bits::from_pattern(x))))
 }
 
+// Kept: the C interface has a name for each.
 #[unsafe(no_mangle)]
 pub extern "C" fn sm_cosine(x: u64) -> u64
     ensures { result ≡ to_bits binary64 (value_of (cosine_of (of_bits binary64 x))) }
@@ -111,6 +114,7 @@ pub extern "C" fn sm_cosine(x: u64) -> u64
     bits::to_pattern(answer::value(cosine::cosine(bits::from_pattern(x))))
 }
 
+// Kept: the C interface has a name for each.
 #[unsafe(no_mangle)]
 pub extern "C" fn sm_logarithm(x: u64) -> u64
     ensures { result ≡ to_bits binary64 (value_of (logarithm_of (of_bits binary64 x))) }
@@ -189,6 +193,7 @@ pub extern "C" fn sm_row_refusal(sheet: &[u8], row: u32) -> u8
 }
 
 // The row's class, as `sm_count` numbers them; 5 where a NaN first answer leaves it none, or the row can't be read.
+// Kept: the C interface, whose numbers these are.
 #[unsafe(no_mangle)]
 pub extern "C" fn sm_row_class(sheet: &[u8], row: u32) -> usize
     ensures { result ≡ class_in sheet.now row }
@@ -197,6 +202,7 @@ pub extern "C" fn sm_row_class(sheet: &[u8], row: u32) -> usize
 }
 
 // How often the row was driven, as its bytes say; in a sheet that says 1, whose rows keep no times, once, and a blank row never. 0 where the row can't be read.
+// Kept: the C interface, whose numbers these are.
 #[unsafe(no_mangle)]
 pub extern "C" fn sm_row_times(sheet: &[u8], row: u32) -> u16
     ensures { result ≡ times_of sheet.now row }
@@ -221,6 +227,7 @@ pub extern "C" fn sm_back(sheet: &mut [u8]) -> u8
 }
 
 // The row that such a refusal of the sheet as it is would be about; the number of rows where 10 is about the counts, and 0 where no row is meant.
+// Kept: the C interface, whose numbers these are.
 #[unsafe(no_mangle)]
 pub extern "C" fn sm_forth_row(sheet: &[u8]) -> u32
     ensures { result ≡ (stop_of true sheet.now).row }
@@ -236,6 +243,7 @@ pub extern "C" fn sm_back_row(sheet: &[u8]) -> u32
 }
 
 // How many rows are blank (0), finite (1), +∞ (2), -∞ (3) or refused (4), by the sheet's own counts; 0 for another class or where `sm_total_refusal` is not 0.
+// Kept: the C interface, whose numbers these are.
 #[unsafe(no_mangle)]
 pub extern "C" fn sm_count(sheet: &[u8], class: u8) -> u32
     ensures { result ≡ count_of sheet.now class }
@@ -244,6 +252,7 @@ pub extern "C" fn sm_count(sheet: &[u8], class: u8) -> u32
 }
 
 // The pattern of the total rounded once; +0 where `sm_total_refusal` is not 0.
+// Kept: the C interface, whose numbers these are.
 #[unsafe(no_mangle)]
 pub extern "C" fn sm_total(sheet: &[u8]) -> u64
     ensures { result ≡ to_bits binary64 (total_of sheet.now) }

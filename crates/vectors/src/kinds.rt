@@ -39,6 +39,7 @@ pub(crate) struct Shown {
     pub part: u64,
 }
 
+// Kept: `same` is what was found, and picks no step.
 fn exact(same: bool) -> Shown {
     Shown { same, part: 0 }
 }
@@ -54,6 +55,7 @@ fn millionths(part: f64) -> u64 {
     2000000
 }
 
+// Kept: `good` is what was found, and picks no step.
 fn within(good: bool, distance: f64, bound: f64) -> Shown {
     if distance == 0.0 {
         return exact(good);

@@ -1,4 +1,5 @@
 -- Arguments that the functions' proofs cite.
+pub mod Division
 pub mod Reading
 pub mod Leading
 pub mod Shifted

@@ -11,11 +11,19 @@ pub fn upper(a: u64, b: u64) -> u64
     (product(a, b) >> 64) as u64
 }
 
+// Long division, eight binary digits at a time: a division of 128 bits would be a call that no proof covers.
 pub fn quotient(a: u64, b: u64) -> u64
-    requires { a < b }
+    requires { (a < b) × (b < 2 ^ 56) }
     ensures { result ≡ a * 2 ^ 64 / b }
 {
-    ((u128::from(a) << 64) / u128::from(b)) as u64
+    let mut q: u64 = 0;
+    let mut rest = a;
+    for _ in 0..8u64 {
+        let next = rest * 256;
+        q = q * 256 + next / b;
+        rest = next % b;
+    }
+    q
 }
 
 // 1/n + u/(n + d) + u^2/(n + 2d) + .., k terms, in units of 2^-63, from the last to the first.

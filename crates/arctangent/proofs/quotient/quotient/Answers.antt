@@ -8,7 +8,8 @@ use Rattle.arctangent.proofs.quotient.quotient.Goals as goal
 pub quotient-requires : goal.quotient-requires
 quotient-requires c =
     let a = c.args in
-    ltb→lt a.a a.b (holds (both_true (ltb a.a a.b) (ltb a.b (2 ^ 56)) c.if-a-b.true).0)
+    let b = both_true (ltb a.a a.b) (ltb a.b (2 ^ 56)) c.if-a-b.true in
+    (ltb→lt a.a a.b (holds b.0), ltb→lt a.b (2 ^ 56) (holds b.1))
 
 pub returns-then-a-b : goal.returns-then-a-b
 unfolding quotient_of

@@ -7,7 +7,6 @@ pub fn product(a: u64, b: u64) -> u128
     a as u128 * b as u128
 }
 
-// Kept: docs/PROVED.md and the wrong programs name `plus`, `minus` and `less`; code above writes `+`, `-` and `<`.
 pub fn plus(a: u128, b: u128) -> u128
     ensures { result ≡ (a + b) % 2 ^ 128 }
 {

@@ -14,7 +14,7 @@ ghost use Rattle.bits.specs.Rounded.{rounded_of};
 ghost use Rattle.fused.specs.Fused.{fused_of};
 ghost use Rattle.fused.specs.Steps.{Lifted, Shifted, without};
 
-use bits::Parts;
+use bits::{Parts, less, minus, plus};
 
 // A product of digits moved up 63 places each counts in 2^-(2·1074 + 2·63), an addend with 64 zeros behind it in 2^-(1074 + 63 + 64).
 const PRODUCT_UNIT: u64 = 2340 - 2 * 1074 - 2 * 63;
@@ -117,7 +117,7 @@ fn take(negative: bool, a: u128, b: Left, exponent: u64) -> f64
     requires { b.digits + cond b.more 1 0 ≤ a }
     ensures { result ≡ rounded_of (negative && ltb 0 (without a b.digits b.more)) (without a b.digits b.more) b.more exponent }
 {
-    let d = a - b.digits - u128::from(b.more);
+    let d = minus(a, plus(b.digits, u128::from(b.more)));
     bits::rounded(negative & (d > 0), d, b.more, exponent)
 }
 
@@ -128,9 +128,9 @@ fn sum_at(a: Place, b: Place) -> f64
 {
     let t = shifted(b.digits, a.exponent - b.exponent);
     if a.negative == b.negative {
-        return bits::rounded(a.negative, a.digits + t.digits, t.more, a.exponent);
+        return bits::rounded(a.negative, plus(a.digits, t.digits), t.more, a.exponent);
     }
-    if a.digits < t.digits {
+    if less(a.digits, t.digits) {
         let whole = Left {
             digits: a.digits,
             more: false,

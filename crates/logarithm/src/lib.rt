@@ -15,7 +15,7 @@ mod factors;
 mod series;
 
 use answer::{Answer, Refusal};
-use bits::{Parts, parts, rounded};
+use bits::{Parts, less, minus, parts, rounded};
 use factors::factored;
 use series::{part, sum};
 
@@ -33,10 +33,10 @@ fn natural(p: Parts) -> f64
     let f = factored(p);
     let a = sum(f.above, part(f.n, ONE));
     let b = sum(f.below, part(ONE, f.n));
-    if a < b {
-        rounded(true, b - a, false, SUM_UNIT)
+    if less(a, b) {
+        rounded(true, minus(b, a), false, SUM_UNIT)
     } else {
-        rounded(false, a - b, false, SUM_UNIT)
+        rounded(false, minus(a, b), false, SUM_UNIT)
     }
 }
 

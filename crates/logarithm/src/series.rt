@@ -2,7 +2,7 @@
 ghost use Rattle.std.specs.Prelude.{◌≡◌, ◌+◌, ◌-◌, ◌*◌, ◌^◌, ◌≤◌, ◌<◌};
 ghost use Rattle.logarithm.specs.Logarithm.{part_of, third};
 
-use bits::{product, quotient, run, upper};
+use bits::{plus, product, quotient, run, upper};
 
 // S(1/3), which stands for log 2.
 const THIRD: u64 = 3196577161300663914;
@@ -23,5 +23,5 @@ pub(crate) fn part(a: u64, b: u64) -> u64
 pub(crate) fn sum(k: u64, s: u64) -> u128
     ensures { result ≡ k * third + s }
 {
-    product(k, THIRD) + u128::from(s)
+    plus(product(k, THIRD), u128::from(s))
 }

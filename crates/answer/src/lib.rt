@@ -171,11 +171,10 @@ pub fn infinite(v: f64) -> bool
 fn finite(v: f64) -> Result<Answer, Refusal>
     ensures { result ≡ finite_of v }
 {
-    if v.is_finite() {
-        Ok(Answer::One(v))
-    } else {
-        Err(Refusal::NotFinite)
+    if v.is_nan() | infinite(v) {
+        return Err(Refusal::NotFinite);
     }
+    Ok(Answer::One(v))
 }
 
 // A formula whose infinities are no answer: 5 where a recipe was not met, then 6.
@@ -195,7 +194,7 @@ pub fn handed(v: f64) -> Result<Answer, Refusal>
     if v.is_nan() {
         return Err(Refusal::NotFinite);
     }
-    if v.is_infinite() {
+    if infinite(v) {
         return Ok(Answer::Infinite(v < 0.0));
     }
     Ok(Answer::One(v))

@@ -3,12 +3,25 @@
 #![tactic(auto)]
 
 ghost use Rattle.std.specs.Prelude.{◌≡◌};
-ghost use Rattle.ellipf.specs.Ellipf.{pole_of, far_of, middle_of, recipe_of, closed_of, with_periods_of, reduced_of, counted_of};
+ghost use Rattle.ellipf.specs.Ellipf.{signum_of, pole_of, far_of, middle_of, recipe_of, closed_of, with_periods_of, reduced_of, counted_of};
 
-use answer::{Amplitude, Answer, Counted, Parameter, Refusal, Term, handed, settled, unasked};
+use answer::{
+    Amplitude, Answer, Counted, Parameter, Refusal, Term, handed, infinite, settled, unasked,
+};
 use carlson::Outcome;
 use incomplete::{FAR_OUT, HALF_PI, ROOT_OF_SCALE, SCALE, folded, large, on_circle, sine};
 use rf::rf;
+
+// 1/φ tells -0 from +0.
+fn signum(phi: f64) -> f64
+    ensures { result ≡ signum_of phi }
+{
+    if (phi < 0.0) | ((phi == 0.0) & (1.0 / phi < 0.0)) {
+        -1.0
+    } else {
+        1.0
+    }
+}
 
 // Sine is asked only of |φ| < π/2.
 fn hides_pole(phi: f64, m: f64) -> bool
@@ -62,7 +75,7 @@ fn recipe(s: f64, m: f64, sine: f64, cosine: f64) -> Term
     let s2 = sine * sine;
     let c2 = cosine * cosine;
     let c = 1.0 / s2;
-    if c.is_infinite() {
+    if infinite(c) {
         let f = rf(c2, 1.0 - m * sine * sine, 1.0);
         return of_rf(f, s * sine * f.value);
     }
@@ -80,7 +93,7 @@ fn recipe(s: f64, m: f64, sine: f64, cosine: f64) -> Term
 fn closed(m: f64, t: Term) -> Result<Answer, Refusal>
     ensures { result ≡ closed_of m t.met t.value }
 {
-    let lost = !t.met | !t.value.is_finite();
+    let lost = !t.met | (t.value.is_nan() | infinite(t.value));
     if (m == f64::NEG_INFINITY) & lost {
         return Ok(Answer::One(0.0));
     }
@@ -130,7 +143,7 @@ pub fn ellipf(phi: Amplitude, m: Parameter) -> Counted
     if hides_pole(phi, m) {
         return unasked(Err(Refusal::Beyond));
     }
-    let sign = phi.signum();
+    let sign = signum(phi);
     let size = whole::magnitude(phi);
     if size > FAR_OUT {
         return unasked(far(sign, size, m));

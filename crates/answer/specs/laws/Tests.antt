@@ -1,21 +1,14 @@
--- The code tells the three kinds of value apart by tests: `v != v` holds of NaN alone, and only an infinity equals one. Assumes nothing.
-use Rattle.std.specs.Prelude.{◌≡◌, refl, Bool, true, false, cond, ◌||◌, Float, Ok, Err}
+-- The code tells the three kinds of value apart by tests: `v != v` holds of NaN alone. Assumes nothing.
+use Rattle.std.specs.Prelude.{◌≡◌, refl, Bool, cond, ◌||◌, Float, Ok, Err}
 use Rattle.std.proofs.Common.{◌∙◌, ap}
 use Rattle.std.specs.Float.{nan, inf, fin}
-use Rattle.std.specs.Float.Ieee.{eq, lt, of_bits, is_nan}
-use Rattle.laws.specs.Arithmetic.{◌=·◌, ◌<·◌, ◌≠·◌, +0, +∞, -∞}
+use Rattle.std.specs.Float.Ieee.{lt, of_bits, is_nan}
+use Rattle.laws.specs.Arithmetic.{◌<·◌, ◌≠·◌, +0}
 use Rattle.laws.specs.Ladder.{when◌gives◌else◌}
 use Rattle.laws.specs.laws.Kinds.{differs_is}
 use Rattle.answer.specs.declared.Answer.TheVariants.{One, Infinite}
 use Rattle.answer.specs.declared.Refusal.TheVariants.{NotFinite}
 use Rattle.answer.specs.Settle.{infinite_of, finite_of, handed_of}
-
-pub infinite_is : (v : Float) → (v =· +∞ || v =· -∞) ≡ infinite_of v
-unfolding infinite_of eq of_bits
-infinite_is nan = refl
-infinite_is (inf true) = refl
-infinite_is (inf false) = refl
-infinite_is (fin s m e) = refl
 
 pub finite_is : (v : Float) → cond (v ≠· v || infinite_of v) (Err NotFinite) (Ok (One v)) ≡ finite_of v
 unfolding is_nan infinite_of finite_of

@@ -4,7 +4,6 @@ use Rattle.laws.specs.Ladder.{held, passed}
 use Rattle.laws.specs.laws.Kinds.{differs_is}
 use Rattle.answer.specs.Settle.{unasked_of}
 use Rattle.ellipf.specs.Ellipf.{counted_of}
-use Rattle.ellipf.proofs.Sign.{sign_is}
 use Rattle.ellipf.proofs.ellipf.Goals as goal
 
 pub returns-then-is_nan : goal.returns-then-is_nan
@@ -29,12 +28,12 @@ pub returns-then-size : goal.returns-then-size
 unfolding counted_of
 returns-then-size c =
     let either = ap₂ (λ (a b : Bool). a || b) (differs_is _ ∙ sym c.is_nan.ensures.value) (differs_is _ ∙ sym c.is_nan-2.ensures.value) ∙ c.if-is_nan.false in
-    rw (← c.magnitude-size.ensures, ← sign_is _ _ either, ← c.signum-sign.ensures)
+    rw (← c.magnitude-size.ensures, ← c.signum-sign.ensures)
     (passed _ _ either (passed _ _ c.if-m.false (passed _ _ (sym c.hides_pole.ensures ∙ c.if-hides_pole.false) (held _ _ c.if-size.true (c.unasked-then-size.ensures ∙ ap unasked_of c.far.ensures)))))
 
 pub returns : goal.returns
 unfolding counted_of
 returns c =
     let either = ap₂ (λ (a b : Bool). a || b) (differs_is _ ∙ sym c.is_nan.ensures.value) (differs_is _ ∙ sym c.is_nan-2.ensures.value) ∙ c.if-is_nan.false in
-    rw (← c.magnitude-size.ensures, ← sign_is _ _ either, ← c.signum-sign.ensures)
+    rw (← c.magnitude-size.ensures, ← c.signum-sign.ensures)
     (passed _ _ either (passed _ _ c.if-m.false (passed _ _ (sym c.hides_pole.ensures ∙ c.if-hides_pole.false) (passed _ _ c.if-size.false c.reduced.ensures))))

@@ -1,2 +1,0 @@
--- What more than one function's proof cites.
-mod Sign

@@ -1,7 +1,7 @@
 -- Down the tests of `by_domain` and of `below_one_of`: what they are where one holds. Assumes nothing.
-use Rattle.std.specs.Prelude.{◌≡◌, MatchOption, Option, Some, None, ℕ, Float, Result, Err}
+use Rattle.std.specs.Prelude.{◌≡◌, MatchOption, Option, Some, None, ℕ, ◌<◌, Float, Result, Err}
 use Rattle.std.specs.Option.{option_map_or}
-use Rattle.std.proofs.Math.Path.{refl, sym, ap, ◌∙◌}
+use Rattle.std.proofs.Math.Path.{refl, sym, ap, subst, ◌∙◌}
 use Rattle.std.proofs.Math.Bool.{true, false}
 use Rattle.laws.specs.Arithmetic.{◌⊖◌, ◌<·◌, ◌=·◌, ◌≠·◌, +0, -∞, 1·0}
 use Rattle.laws.specs.Ladder.{held, passed}
@@ -12,6 +12,7 @@ use Rattle.answer.specs.declared.Refusal.TheVariants.{NotANumber, AboveOne}
 use Rattle.legendre.specs.Domain.{by_domain, chosen_of, Decides, below_one_of}
 use Rattle.legendre.specs.declared.domain.Domain.{Domain}
 use Rattle.pieces.specs.Piece.{piece_of, centre_of}
+use Rattle.pieces.specs.laws.Ten.{ten_pieces}
 
 module _ (m : Float) (one minusInfinity negative belowOne : Result Answer Refusal) where
   pub at-nan : m ≠· m ≡ true → Err NotANumber ≡ by_domain m one minusInfinity negative belowOne
@@ -61,10 +62,9 @@ module _ {A : Type 0} (byPiece : ℕ → Float → A) (byMean : Float → A) (m 
   by_mean p q e = rw (← p, ← q) e
 
   -- what holds of both holds
-  pub below : (P : A → Type 0) → ((i : ℕ) → P (byPiece i (m ⊖ centre_of i))) → P (byMean (root_of (1·0 ⊖ m))) → P (below_one_of byPiece byMean m)
-  unfolding below_one_of
-  below P p q = go (piece_of m)
+  pub below : (P : A → Type 0) → ((i : ℕ) → Some i ≡ piece_of m → i < 10 → P (byPiece i (m ⊖ centre_of i))) → P (byMean (root_of (1·0 ⊖ m))) → P (below_one_of byPiece byMean m)
+  below P p q = go (piece_of m) refl
     where
-      go : (o : Option ℕ) → P (option_map_or (λ i. byPiece i (m ⊖ centre_of i)) o (byMean (root_of (1·0 ⊖ m))))
-      go (Some i) = p i
-      go None = q
+      go : (o : Option ℕ) → o ≡ piece_of m → P (below_one_of byPiece byMean m)
+      go (Some i) e = subst P (on_piece e refl refl) (p i e (ten_pieces m i e))
+      go None e = subst P (by_mean e refl refl) q

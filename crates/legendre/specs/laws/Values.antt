@@ -70,7 +70,7 @@ k_piece m u i = record { size = wider 1345 (lit≤ tt) (k_piece_small (m ⊖ cen
 
 k-below : (m : Float) → Unit m → Fine 1345 (k_below_one_of m)
 unfolding k_below_one_of
-k-below m u = below k_piece_of k_mean_of m (Fine 1345) (k_piece m u) (k_mean (looser 537 1586 (lit≤ tt) (lit≤ tt) (unit_start u)))
+k-below m u = below k_piece_of k_mean_of m (Fine 1345) (λ i p l. k_piece m u i) (k_mean (looser 537 1586 (lit≤ tt) (lit≤ tt) (unit_start u)))
 
 near-one : {y0 : Float} → Within 537 1074 y0 → Fine 1569 (near_one_of y0)
 unfolding near_one_of
@@ -100,7 +100,7 @@ e_piece m u i = record { size = wider 1569 (lit≤ tt) (e_piece_small (m ⊖ cen
 
 e-below : (m : Float) → Unit m → Fine 1569 (e_below_one_of 32 m)
 unfolding e_below_one_of
-e-below m u = below e_piece_of (e_mean_of 32) m (Fine 1569) (e_piece m u) (e_mean (unit_start u))
+e-below m u = below e_piece_of (e_mean_of 32) m (Fine 1569) (λ i p l. e_piece m u i) (e_mean (unit_start u))
 
 record FineBoth (b : Both) : Type 0 where
   k : Fine 1345 b.k
@@ -118,7 +118,7 @@ both_mean {y0} w =
 
 both_below : (m : Float) → Unit m → FineBoth (both_below_one_of m)
 unfolding both_below_one_of both_piece_of
-both_below m u = below both_piece_of both_mean_of m FineBoth (λ i. record { k = k_piece m u i; e = e_piece m u i }) (both_mean (unit_start u))
+both_below m u = below both_piece_of both_mean_of m FineBoth (λ i p l. record { k = k_piece m u i; e = e_piece m u i }) (both_mean (unit_start u))
 
 -- ---- below 0
 module _ (m : Float) (n : Negative m) where

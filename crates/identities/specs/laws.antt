@@ -1,8 +1,11 @@
--- What the functions' definitions keep: a value's one pattern and one set of parts, magnitudes, what multiply-add and remainder mean, the end of ellipe's loop, signs and oddness, angles that a sine has an answer for, what infinite and NaN arguments do to a recipe, identities
--- that hold bit for bit.
+-- What the functions' definitions keep: a value's one pattern and one set of parts, the limbs of a number, the three kinds of value, magnitudes, what is picked of a value's parts, what multiply-add and remainder mean,
+-- the end of ellipe's loop, signs and oddness, angles that a sine has an answer for, what infinite and NaN arguments do to a recipe, identities that hold bit for bit.
 pub mod Patterns
 pub mod Unique
+pub mod Limbs
+pub mod Kinds
 pub mod Magnitude
+pub mod Parted
 pub mod Fused
 pub mod Remainder
 pub mod Nearest

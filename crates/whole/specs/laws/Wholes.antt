@@ -62,9 +62,6 @@ module _ (x : Float) (f s : Bool) (d e : ℕ) (p : PartsOf x f s d e) (q : (f &&
   pub under : e < 1074
   under = ltb→lt e 1074 (holds (both_true f (ltb e 1074) q).1)
 
-  pub some_below : 0 < 1074 - e
-  some_below = omega (arith, under)
-
   value : HasValue x s d (2 ^ (1074 - e))
   value = rescale x (subst (λ (z : ℕ). HasValue x s (d * 2 ^ e) z) (ap (λ (z : ℕ). 2 ^ z) (let u = under in let z : 1074 ≡ 1074 - e + e = omega arith in z) ∙ pow-add 2 (1074 - e) e) decoded.value)
     where
@@ -91,12 +88,6 @@ module _ (F : Float → Float) (pick : Bool → ℕ → ℕ → ℕ) (w : Picks 
     module _ (q : (f && ltb e 1074) ≡ true) (n : ℕ) (z : n ≡ pick s d (2 ^ (1074 - e))) where
       pub low : round binary64 s n 1 ≡ F x
       low = ap (λ (y : ℕ). round binary64 s y 1) z ∙ sym (fraction x s d (2 ^ (1074 - e)) (pow_pos (1074 - e)) (value x f s d e p q))
-
-      pub below-zero : s ≡ true → neg (of_int binary64 (pos n)) ≡ F x
-      below-zero r = signed-neg s n r ∙ low
-
-      pub above_zero : s ≡ false → of_int binary64 (pos n) ≡ F x
-      above_zero r = signed_pos s n r ∙ low
 
     -- the others stay as they are
     pub stays : T (fits binary64 x) → (f && ltb e 1074) ≡ false → x ≡ F x

@@ -15,15 +15,10 @@ STANDING = {
     *((('text', 'specs.laws.Room'), name) for name in ('beyond', 'has_not', 'too_small')),
     *((('text', 'specs.laws.Writing'), name) for name in ('put_next', 'put_one', 'puts_none', 'room_after')),
     (('placing', 'specs.laws.Placing'), 'three-most'),
-    *((('answer', 'specs.laws.Tests'), name) for name in ('finite_is', 'handed_is', 'infinite_is')),
-    *((('bits', 'specs.laws.Wide'), name) for name in ('difference_whole', 'high_is', 'room', 'sum-whole', 'val-lt')), (('bits', 'specs.Wide'), 'Halves'),
-    *((('ellipf', 'specs.laws.Signum'), name) for name in ('signed', 'signum_is')),
-    *((('legendre', 'specs.laws.Decided'), name) for name in ('by_mean', 'on_piece')),
     (('ledger', 'specs.laws.Refusals'), 'read_48'), *((('ledger', 'specs.laws.Rows'), name) for name in ('first_words', 'function_words', 'length_words', 'refusal_words')),
-    *((('whole', 'specs.laws.Wholes'), name) for name in ('above_zero', 'below-zero', 'some_below')),
 }
 # Functions that legsheet called when they landed: they stay where docs/PROVED.md names them.
-NAMED = {'text::put_hex', 'bits::plus', 'bits::minus', 'bits::less', 'answer::infinite'}
+NAMED = {'text::put_hex'}
 # What turns a refusal and a class into C's numbers stands beside those types.
 NAMED |= {'ledger::number', 'ledger::class_number'}
 
@@ -53,8 +48,15 @@ def files(crate, folder, ending):
                     yield path, f.read()
 
 
+def bound(part):
+    """The names that a function's text binds: its parameters, and those of each `let`, `for`, arm and closure."""
+    names = set(re.findall(r'(\w+): ', part[:part.find('{\n')]))
+    for patterns in re.findall(r'\blet ([^=;]*)=|\bfor (.*?) in |^ *(.*?) =>|\|([^|\n]*)\|', part, re.M): names |= set(re.findall(r'\w+', ' '.join(patterns)))
+    return names
+
+
 def functions(crates):
-    """(crate, name) of each function, with what its file imports and its text; a method is named by its type too."""
+    """(crate, name) of each function, with what its file imports, the names that it binds, and its text; a method is named by its type too."""
     found, methods = {}, collections.defaultdict(set)
     for crate in crates:
         for _, text in files(crate, 'src', '.rt'):
@@ -73,14 +75,14 @@ def functions(crates):
                 key = crate, f'{kind}::{m[2]}' if m[1] else m[2]
                 if m[1]:
                     methods[m[2]].add(key)
-                found[key] = imports, part[part.find('{\n'):] if '{\n' in part else part
+                found[key] = imports, bound(part), part[part.find('{\n'):] if '{\n' in part else part
     return found, methods
 
 
-def calls(crate, imports, body, found, methods):
+def calls(crate, imports, own, body, found, methods):
     body = re.sub(r'::<[^<>()]*>', '', body)
     # one that is handed on by its name
-    yield from {(crate, name) for name in re.findall(r'[(,]\s*(\w+)(?=[,)])', body)} & found.keys()
+    yield from {(crate, name) for name in re.findall(r'[(,]\s*(\w+)(?=[,)])', body) if name not in own} & found.keys()
     for m in re.finditer(r'([\w:]*?)(?:::)?(\.?)\b(\w+)\(', body):
         path, dot, name = m[1], m[2], m[3]
         if dot:

@@ -77,17 +77,6 @@ fn put_digits(out: &mut [u8], at: usize, form: Form, k: usize, n: u64) -> usize
     put_byte(out, next, glyph(n % form.base))
 }
 
-// A number in a form, and the byte after it.
-fn put_number(out: &mut [u8], at: usize, form: Form, n: u64, after: u8) -> usize
-    ensures { Puts out.old out.new at result (form.most + 1) (digits_of form.zeros form.base form.most n ++ (after ∷ [])) }
-{
-    if lacks(out.len(), at, form.most + 1) {
-        return at;
-    }
-    let next = put_digits(out, at, form, form.most, n);
-    put_byte(out, next, after)
-}
-
 // Bytes as they are.
 pub fn put_bytes(out: &mut [u8], at: usize, text: &[u8]) -> usize
     ensures { Puts out.old out.new at result (length text.now) text.now }
@@ -104,7 +93,11 @@ pub fn put_bytes(out: &mut [u8], at: usize, text: &[u8]) -> usize
 pub fn put_decimal(out: &mut [u8], at: usize, n: u64, after: u8) -> usize
     ensures { Puts out.old out.new at result 21 (decimal n ++ (after ∷ [])) }
 {
-    put_number(out, at, DECIMAL, n, after)
+    if lacks(out.len(), at, DECIMAL.most + 1) {
+        return at;
+    }
+    let next = put_digits(out, at, DECIMAL, DECIMAL.most, n);
+    put_byte(out, next, after)
 }
 
 // A number in hex: all 16 digits, or none in front of the number.
@@ -123,7 +116,11 @@ pub fn put_hex(out: &mut [u8], at: usize, all: bool, n: u64) -> usize
 pub fn put_pattern(out: &mut [u8], at: usize, n: u64, after: u8) -> usize
     ensures { Puts out.old out.new at result 17 (pattern n ++ (after ∷ [])) }
 {
-    put_number(out, at, PATTERN, n, after)
+    if lacks(out.len(), at, PATTERN.most + 1) {
+        return at;
+    }
+    let next = put_hex(out, at, true, n);
+    put_byte(out, next, after)
 }
 
 // Three numbers, a space between them, and the byte after the last.

@@ -1,9 +1,7 @@
 -- Pieces of text one after the other. Assumes nothing.
-use Rattle.std.specs.Prelude.{refl, List, [], ◌∷◌, ◌++◌, ℕ, ◌+◌, ◌≤◌, length}
-use Rattle.std.proofs.Common.{◌∙◌, arith, length-append}
-use Rattle.text.specs.Text.{three}
+use Rattle.std.specs.Prelude.{refl, List, [], ◌++◌, ℕ, ◌+◌, ◌≤◌, length}
+use Rattle.std.proofs.Common.{◌∙◌, arith}
 use Rattle.text.specs.Writing.{Puts}
-use Rattle.text.specs.laws.Digits.{field-most}
 use Rattle.text.specs.laws.Writing.{placed, put_none, put_both}
 use Rattle.placing.specs.Placed.{Placed}
 
@@ -42,8 +40,3 @@ follow_within s a m room n x y {t} {u} {b} {c} h k l p q =
 -- a larger bound serves
 pub looser : (s : List ℕ) (a m n : ℕ) (x : List ℕ) {t : List ℕ} {b : ℕ} → m ≤ n → Placed s t a b m x → Placed s t a b n x
 looser s a m n x {t} {b} h p = let ps = p.short in record { put = p.put; short = omega arith; same = p.same }
-
--- three numbers have at most 63 bytes
-pub three-most : (a b c after : ℕ) → length (three a b c ++ (after ∷ [])) ≤ 63
-unfolding three
-three-most a b c after = simp length-append (omega (arith, simp length-append at (field-most a 0), simp length-append at (field-most b 0), simp length-append at (field-most c 0)))

@@ -1,6 +1,6 @@
 -- How pieces of text follow each other in a buffer. Assumes nothing.
-use Rattle.std.specs.Prelude.{◌≡◌, refl, ℕ, ◌+◌, ◌≤◌, ◌<◌, List, [], ◌∷◌, ◌++◌, length, take, drop, set, get_or}
-use Rattle.std.proofs.Common.{sym, ap, ◌∙◌, add-zero, zero-add, add-one, arith, length-append, take-append-drop, take-suc, take_at}
+use Rattle.std.specs.Prelude.{◌≡◌, refl, ℕ, ◌+◌, ◌≤◌, ◌<◌, List, [], ◌∷◌, ◌++◌, length, take, drop, set}
+use Rattle.std.proofs.Common.{sym, ap, ◌∙◌, add-zero, zero-add, add-one, arith, length-append, take-append-drop, take_at}
 use Rattle.std.proofs.lemmas.List.{set_split}
 use Rattle.laws.specs.laws.Splices.{splice-two, length-splice}
 use Rattle.text.specs.Writing.{Put, Puts}
@@ -18,14 +18,6 @@ put_both s a x y {t} {u} {b} {c} h p q =
       next = omega (arith, p.next, q.next);
       bytes = q.bytes ∙ rw (p.next, p.bytes) (splice-two s a x y (length x) refl (omega (arith, p.next, q.next)));
     }
-
--- one more byte of a text
-pub put_next : (old out text : List ℕ) (a i : ℕ) → i < length text → a + i < length out → length out ≡ length old → Put old out a (a + i) (take i text)
-    → Put old (set out (a + i) (get_or text i 0)) a (a + (i + 1)) (take (i + 1) text)
-put_next old out text a i h k e p =
-    let f : a + (i + 1) ≡ a + i + 1 = omega arith in
-    let g : take (i + 1) text ≡ take i text ++ (get_or text i 0 ∷ []) = rw add-one (take-suc text i 0 h) in
-    rw (f, g) (put_both old a (take i text) (get_or text i 0 ∷ []) (omega arith) p (put_one out (a + i) (get_or text i 0) k))
 
 pub put_length : (s : List ℕ) (a : ℕ) (x : List ℕ) {t : List ℕ} {b : ℕ} → Put s t a b x → b ≤ length s → length t ≡ length s
 put_length s a x {t} {b} p h = ap length p.bytes ∙ length-splice s a x (omega (arith, p.next))

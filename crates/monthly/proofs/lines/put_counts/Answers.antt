@@ -7,7 +7,8 @@ use Rattle.laws.specs.Ascii.{ascii}
 use Rattle.text.specs.Text.{decimal, three, space, end}
 use Rattle.text.specs.laws.Digits.{field-most}
 use Rattle.monthly.specs.Monthly.{counts_text}
-use Rattle.placing.specs.laws.Placing.{piece, follow, three-most}
+use Rattle.placing.specs.laws.Placing.{piece, follow}
+use Rattle.exact.specs.laws.Pieces.{three-most}
 use Rattle.monthly.proofs.lines.put_counts.Goals as goal
 
 pub returns : goal.returns

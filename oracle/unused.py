@@ -11,16 +11,8 @@ PROMISED = {('runner', 'specs.laws.Law'), ('runner', 'specs.laws.Whole')}
 # Laws that proofs cited when they landed, and that today's check finds no need of: they stand (docs/PORT.md, docs/DESIGN-PASS.md).
 STANDING = {
     (('rj', 'specs.laws.Counts'), 'rj_inside'), (('text', 'specs.laws.Digits'), 'if_below'),
-    *((('text', 'specs.laws.Lines'), name) for name in ('Stands', 'none_yet', 'one_more_lem')),
-    *((('text', 'specs.laws.Room'), name) for name in ('beyond', 'has_not', 'too_small')),
-    *((('text', 'specs.laws.Writing'), name) for name in ('put_next', 'put_one', 'puts_none', 'room_after')),
-    (('placing', 'specs.laws.Placing'), 'three-most'),
-    (('ledger', 'specs.laws.Refusals'), 'read_48'), *((('ledger', 'specs.laws.Rows'), name) for name in ('first_words', 'function_words', 'length_words', 'refusal_words')),
+    (('ledger', 'specs.laws.Refusals'), 'read_48'), (('ledger', 'specs.laws.Rows'), 'refusal_words'),
 }
-# Functions that legsheet called when they landed: they stay where docs/PROVED.md names them.
-NAMED = {'text::put_hex'}
-# What turns a refusal and a class into C's numbers stands beside those types.
-NAMED |= {'ledger::number', 'ledger::class_number'}
 
 
 def stands_on():
@@ -105,7 +97,7 @@ def unused_functions(crates):
         if key not in seen:
             seen.add(key)
             todo += calls(key[0], *found[key], found, methods)
-    return {f'{crate}::{name}' for crate, name in found.keys() - seen} - NAMED
+    return {f'{crate}::{name}' for crate, name in found.keys() - seen}
 
 
 def definitions(text):

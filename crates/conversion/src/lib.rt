@@ -52,7 +52,7 @@ fn is_rejected(sheet: &[u8], row: u32) -> bool
     if !inspection::row_sound(sheet, row) {
         return true;
     }
-    let class = ledger::class_number(inspection::row_class(sheet, row));
+    let class = inspection::class_number(inspection::row_class(sheet, row));
     ledger::count(sheet, class as u8) == 0
 }
 

@@ -1,2 +1,3 @@
--- Why the two ways are right, of any sheet.
+-- Why the two ways are right, of any sheet (Sheets), and what a row's words say (Words).
 pub mod Sheets
+pub mod Words

@@ -2,7 +2,7 @@
 #![tactic(auto)]
 
 ghost use Rattle.std.specs.Prelude.{◌≡◌};
-ghost use Rattle.ledger.specs.Class.{class_at};
+ghost use Rattle.ledger.specs.Class.{class_at, class_number};
 ghost use Rattle.inspection.specs.Rows.{sound_row, rejected_row, class_in, word_of, value_in};
 
 use ledger::Class;
@@ -35,6 +35,16 @@ pub fn row_class(sheet: &[u8], row: u32) -> Option<Class>
     ensures { result ≡ class_at (class_in sheet.now row) }
 {
     ledger::share_of(ledger::read_row(sheet, row)).class
+}
+
+// The number of a class, as `ledger::count` takes it; 5 for none.
+pub fn class_number(class: Option<Class>) -> usize
+    ensures { result ≡ class_number class }
+{
+    match class {
+        Some(class) => class as usize,
+        None => 5,
+    }
 }
 
 // Word k of the row: function, refusal number and times (0), the arguments (1 to 3) and the answers (4 and 5) as bit patterns; 0 where there is no such word or the row can't be read.

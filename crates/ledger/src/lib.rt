@@ -14,8 +14,8 @@ pub use bytes::pattern_at;
 use bytes::{pair, put_words};
 use checks::{Kind, contents, is_sheet, keeps_times, refusal_of_place};
 pub use checks::{row_refusal, says};
-pub use row::{Class, Share, can_stand, class_number, share_of};
-use row::{row_in, row_of, row_part, times};
+pub use row::{Class, Share, can_stand, share_of};
+use row::{row_in, row_of, row_part, times, write_row};
 use total::Total;
 use totals::{read_counts, read_total, revise};
 
@@ -23,16 +23,6 @@ mod bytes;
 mod checks;
 mod row;
 mod totals;
-
-// The number of what refuses a call; 0 where nothing does.
-pub fn number(done: Result<(), Refusal>) -> u8
-    ensures { result ≡ refusal_of done }
-{
-    match done {
-        Ok(()) => 0,
-        Err(refusal) => refusal.number(),
-    }
-}
 
 // The most rows of a sheet.
 pub const MOST_ROWS: usize = 1024;
@@ -98,7 +88,7 @@ fn store(sheet: &mut [u8], row: u32, new: &[u8; 48])
     let old = row_in(sheet, row);
     let at = row_place(row);
     let end = at + 48;
-    sheet[at..end].copy_from_slice(new);
+    write_row(&mut sheet[at..end], new);
     revise(sheet, &old, new);
 }
 

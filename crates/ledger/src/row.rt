@@ -2,12 +2,20 @@
 ghost use Rattle.std.specs.Prelude.{◌≡◌, ◌+◌, ◌≤◌, length};
 ghost use Rattle.ledger.specs.Bytes.{fields};
 ghost use Rattle.ledger.specs.Calls.{row_in, share_of};
-ghost use Rattle.ledger.specs.Class.{number_of, class_at, class_number};
+ghost use Rattle.ledger.specs.Class.{number_of, class_at};
 ghost use Rattle.ledger.specs.Sheet.{row_place, function_in, times_in, first_in, kind_of, class_of, value_of, sound_of, sound};
 
 use super::bytes::{part, pattern_at, put_words};
 use crate::row_place;
 use answer::LAST;
+
+// The row writer: the row's own part of the sheet is lent on to it.
+pub(crate) fn write_row(row: &mut [u8], new: &[u8; 48])
+    requires { length row.old ≡ 48 }
+    ensures { row.new ≡ new.now }
+{
+    row.copy_from_slice(new);
+}
 
 // The row's own part of the sheet.
 pub(crate) fn row_part(sheet: &[u8], row: u32) -> &[u8]
@@ -63,16 +71,6 @@ pub(crate) fn index(class: Class) -> usize
     ensures { result ≡ number_of class }
 {
     class as usize
-}
-
-// The number of a class, as `count` takes it; 5 for none.
-pub fn class_number(class: Option<Class>) -> usize
-    ensures { result ≡ class_number class }
-{
-    match class {
-        Some(class) => index(class),
-        None => 5,
-    }
 }
 
 fn kind(x: f64) -> Option<Class>

@@ -17,7 +17,7 @@ pub(crate) fn share_of(sheet: &[u8], number: u32, row: u32) -> Share
     ensures { result ≡ share_of (leg_at number sheet.now row) }
 {
     Share {
-        class: ledger::class_number(inspection::row_class(sheet, row)),
+        class: inspection::class_number(inspection::row_class(sheet, row)),
         refusal: refusal_of(sheet, row),
         times: ledger::row_times(sheet, row),
         value: inspection::row_value(sheet, row),

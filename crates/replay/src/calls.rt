@@ -40,7 +40,12 @@ fn make(mut f: Fields<'_>, sheet: &mut [u8]) -> Option<bool> {
     let rows = f.word()?;
     let refusal = f.byte()?;
     f.end()?;
-    Some(ledger::number(ledger::make_blank(sheet, rows)) == refusal)
+    Some(
+        ledger::make_blank(sheet, rows)
+            .err()
+            .map_or(0, |refused| refused.number())
+            == refusal,
+    )
 }
 
 fn edit(mut f: Fields<'_>, sheet: &mut [u8]) -> Option<bool> {
@@ -54,14 +59,24 @@ fn edit(mut f: Fields<'_>, sheet: &mut [u8]) -> Option<bool> {
     };
     let refusal = f.byte()?;
     f.end()?;
-    Some(ledger::number(sheet::edit(sheet, row, entry)) == refusal)
+    Some(
+        sheet::edit(sheet, row, entry)
+            .err()
+            .map_or(0, |refused| refused.number())
+            == refusal,
+    )
 }
 
 fn clear(mut f: Fields<'_>, sheet: &mut [u8]) -> Option<bool> {
     let row = f.word()?;
     let refusal = f.byte()?;
     f.end()?;
-    Some(ledger::number(clearing::clear(sheet, row)) == refusal)
+    Some(
+        clearing::clear(sheet, row)
+            .err()
+            .map_or(0, |refused| refused.number())
+            == refusal,
+    )
 }
 
 // A byte put where no call puts one.
@@ -77,7 +92,11 @@ fn poke(mut f: Fields<'_>, sheet: &mut [u8]) -> Option<bool> {
 fn read(mut f: Fields<'_>, sheet: &[u8]) -> Option<bool> {
     let row = f.word()?;
     let refusal = f.byte()?;
-    if ledger::number(ledger::row_refusal(sheet, row)) != refusal {
+    if ledger::row_refusal(sheet, row)
+        .err()
+        .map_or(0, |refused| refused.number())
+        != refusal
+    {
         return None;
     }
     Some(f.are(ledger::read_row(sheet, row)))
@@ -88,7 +107,10 @@ fn total(mut f: Fields<'_>, sheet: &[u8]) -> Option<bool> {
     let pattern = f.long()?;
     f.end()?;
     Some(
-        ledger::number(ledger::total_refusal(sheet)) == refusal
+        ledger::total_refusal(sheet)
+            .err()
+            .map_or(0, |refused| refused.number())
+            == refusal
             && bits::to_pattern(ledger::total(sheet)) == pattern,
     )
 }

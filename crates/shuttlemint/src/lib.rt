@@ -10,7 +10,7 @@ ghost use Rattle.fused.specs.Fused.{fused_of};
 ghost use Rattle.whole.specs.Whole.{magnitude_of, round_of};
 ghost use Rattle.floor.specs.Floor.{trunc_of, floor_of};
 ghost use Rattle.remainder.specs.Remainder.{remainder_of};
-ghost use Rattle.answer.specs.Answer.{value_of};
+ghost use Rattle.answer.specs.Answer.{refusal_of, value_of};
 ghost use Rattle.angle.specs.Sine.{sine_of};
 ghost use Rattle.angle.specs.Cosine.{cosine_of};
 ghost use Rattle.logarithm.specs.Logarithm.{logarithm_of};
@@ -21,8 +21,20 @@ ghost use Rattle.sheet.specs.Edit.{edit_refusal, edit_of};
 ghost use Rattle.conversion.specs.Conversion.{stopped_of, stop_of, converted_of};
 ghost use Rattle.shuttlemint.specs.Face.{evaluate_refusal, evaluate_out, row_place_of};
 
+use answer::Refusal;
 use conversion::{Stop, Way};
 use sheet::Entry;
+
+// The number of what refuses a call, 0 where nothing does.
+// Kept: the C interface, whose numbers these are.
+fn number(done: Result<(), Refusal>) -> u8
+    ensures { result ≡ refusal_of done }
+{
+    match done {
+        Ok(()) => 0,
+        Err(refusal) => refusal.number(),
+    }
+}
 
 // The number of what refuses a conversion, 0 where nothing does, and the row that it is about.
 // Kept: the C interface, whose numbers these are.
@@ -148,7 +160,7 @@ pub extern "C" fn sm_rounds(function: u8, a: u64, b: u64, c: u64) -> usize
 pub extern "C" fn sm_blank(sheet: &mut [u8], rows: u32) -> u8
     ensures { (result ≡ blank_refusal sheet.old rows) × (sheet.new ≡ blank_of sheet.old rows) }
 {
-    ledger::number(ledger::make_blank(sheet, rows))
+    number(ledger::make_blank(sheet, rows))
 }
 
 #[unsafe(no_mangle)]
@@ -170,7 +182,7 @@ pub extern "C" fn sm_edit(
         c,
         times,
     };
-    ledger::number(sheet::edit(sheet, row, entry))
+    number(sheet::edit(sheet, row, entry))
 }
 
 // Where the row's own 48 bytes start in the lent sheet; its length where the read is refused, so that no byte stands there.
@@ -189,7 +201,7 @@ pub extern "C" fn sm_row_at(sheet: &[u8], row: u32) -> usize
 pub extern "C" fn sm_row_refusal(sheet: &[u8], row: u32) -> u8
     ensures { result ≡ row_refusal sheet.now row }
 {
-    ledger::number(ledger::row_refusal(sheet, row))
+    number(ledger::row_refusal(sheet, row))
 }
 
 // The row's class, as `sm_count` numbers them; 5 where a NaN first answer leaves it none, or the row can't be read.
@@ -198,7 +210,7 @@ pub extern "C" fn sm_row_refusal(sheet: &[u8], row: u32) -> u8
 pub extern "C" fn sm_row_class(sheet: &[u8], row: u32) -> usize
     ensures { result ≡ class_in sheet.now row }
 {
-    ledger::class_number(inspection::row_class(sheet, row))
+    inspection::class_number(inspection::row_class(sheet, row))
 }
 
 // How often the row was driven, as its bytes say; in a sheet that says 1, whose rows keep no times, once, and a blank row never. 0 where the row can't be read.
@@ -265,5 +277,5 @@ pub extern "C" fn sm_total(sheet: &[u8]) -> u64
 pub extern "C" fn sm_total_refusal(sheet: &[u8]) -> u8
     ensures { result ≡ total_refusal sheet.now }
 {
-    ledger::number(ledger::total_refusal(sheet))
+    number(ledger::total_refusal(sheet))
 }

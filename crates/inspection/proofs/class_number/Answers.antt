@@ -1,10 +1,23 @@
 -- By cases.
-use Rattle.ledger.specs.Class.{class_number}
-use Rattle.ledger.proofs.row.class_number.Goals as goal
+use Rattle.std.proofs.Common.{◌≡◌, refl, ap, ◌∙◌}
+use denote.Enum.Declared.{tag_of}
+use Rattle.ledger.specs.contracts.row.Class.{the_type}
+use Rattle.ledger.specs.declared.row.Class.{Class}
+use Rattle.ledger.specs.declared.row.Class.TheVariants.{Blank, Finite, PlusInfinity, MinusInfinity, Refused}
+use Rattle.ledger.specs.Class.{number_of, class_number}
+use Rattle.inspection.proofs.class_number.Goals as goal
+
+tag : (k : Class) → tag_of the_type k ≡ number_of k
+unfolding number_of
+tag Blank = refl
+tag Finite = refl
+tag PlusInfinity = refl
+tag MinusInfinity = refl
+tag Refused = refl
 
 pub returns-in-Some : goal.returns-in-Some
 unfolding class_number
-returns-in-Some c = rw c.in-Some.is c.index.ensures
+returns-in-Some c = rw c.in-Some.is (tag c.in-Some.class)
 
 pub returns-in-None : goal.returns-in-None
 unfolding class_number

@@ -22,7 +22,7 @@ revise-requires c =
     let s = c.args.sheet.now in
     let w = c.args.new.now in
     let i = c.args.row in
-    rw (put s _ w i _ c.copy_from_slice.ensures.after c.told-new c.row_place-at.ensures)
+    rw (put s _ w i _ c.write_row.ensures c.told-new c.row_place-at.ensures)
     (revisable s w i c.requires.0 c.requires.2 c.told-new (undamaged s i c.requires.3) c.requires.1 _ c.row_in-old.ensures c.requires.4)
 
 pub returns : goal.returns
@@ -30,6 +30,6 @@ returns c =
     let s = c.args.sheet.now in
     let w = c.args.new.now in
     let i = c.args.row in
-    let b = put s _ w i _ c.copy_from_slice.ensures.after c.told-new c.row_place-at.ensures in
+    let b = put s _ w i _ c.write_row.ensures c.told-new c.row_place-at.ensures in
     edited_is s w i c.requires.0 c.requires.2 c.told-new c.revise.new.sheet
     (c.revise.ensures ∙ (λ j. splice (b j) (row_place (rows_in (b j))) (revised (b j) (c.row_in-old.ensures j) w)))

@@ -1,6 +1,6 @@
 -- By cases.
 use Rattle.answer.specs.Answer.{refusal_of}
-use Rattle.ledger.proofs.number.Goals as goal
+use Rattle.shuttlemint.proofs.number.Goals as goal
 
 pub returns-in-Ok : goal.returns-in-Ok
 unfolding refusal_of

@@ -1,6 +1,7 @@
 -- The call.
-use Rattle.files.specs.Calls.{called}
+use Rattle.std.specs.Result.{is_ok}
+use Rattle.files.specs.Calls.{called, removes}
 use Rattle.files.proofs.saving.remove.Goals as goal
 
 pub returns : goal.returns
-returns c = called _
+returns c = called (removes _ (is_ok c.remove_file.result))

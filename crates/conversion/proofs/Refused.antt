@@ -1,11 +1,10 @@
 -- The tests of rows and counts, and the refusals in their order. Assumes nothing.
 use mathlib.Core.Path.{◌≡◌, ap, ◌∙◌, sym}
-use mathlib.Core.Bool.{Bool, true, false, cond, not}
+use mathlib.Core.Bool.{Bool, true, false, not}
 use mathlib.Core.List.{List}
 use Prim.Native.Nat.{ℕ, ◌≤◌, ◌<◌}
-use native.Mathlib.Omega.{arith}
 use borrow.Author.Tests.{eq-eqb, ne_eqb, lt-ltb, le-ltb}
-use lib.Dec.{ltb, eqb}
+use lib.Dec.{eqb}
 use Rattle.ledger.specs.Calls.{rows_in, is_sheet_of, times_of, count_of}
 use Rattle.inspection.specs.Rows.{sound_row, class_in}
 use Rattle.conversion.specs.Conversion.{says_before, first_of, rejected, uncounted, oftener, stopped, stop_of}

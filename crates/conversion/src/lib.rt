@@ -1,13 +1,13 @@
 // From a sheet that says 1 to one that says 3, and back (02, [9]), in the caller's bytes: the length stays. Counts and total are carried over.
 #![tactic(auto)]
 
-ghost use Rattle.std.specs.Prelude.{◌≡◌, true, ◌++◌, ◌+◌, ◌≤◌, length, take, drop, eqb};
+ghost use Rattle.std.specs.Prelude.{◌≡◌, true, ◌++◌, ◌+◌, ◌≤◌, length, take, drop, eqb, ltb, Some, None};
 ghost use Rattle.laws.specs.Ladder.{when◌gives◌else◌};
 ghost use Rattle.laws.specs.Splice.{splice};
 ghost use Rattle.ledger.specs.Bytes.{bytes};
 ghost use Rattle.ledger.specs.Sheet.{row_place};
 ghost use Rattle.ledger.specs.Calls.{row_in};
-ghost use Rattle.conversion.specs.Conversion.{is_forth, says_before, says_after, turned, turned_rows, rejected, uncounted, oftener, stopped_of, stop_of, converted_of};
+ghost use Rattle.conversion.specs.Conversion.{is_forth, says_before, says_after, turned, turned_rows, first_of, rejected, uncounted, oftener, stopped_of, stop_of, converted_of};
 
 use answer::Refusal;
 use ledger::Class;
@@ -74,6 +74,32 @@ fn is_uncounted(sheet: &[u8]) -> bool
     all != ledger::rows_in(sheet) as u64
 }
 
+// The first row that is rejected, if there is one. A loop, and no `find`: with that the compiled code tests the whole sheet anew for every row.
+fn first_rejected(sheet: &[u8], rows: u32) -> Option<u32>
+    ensures { result ≡ (when ltb (first_of (rejected sheet.now) rows) rows gives Some (first_of (rejected sheet.now) rows) else None) }
+{
+    for i in 0..rows {
+        let found = is_rejected(sheet, i);
+        if found {
+            return Some(i);
+        }
+    }
+    None
+}
+
+// The first row that was driven other than once, if there is one.
+fn first_oftener(sheet: &[u8], rows: u32) -> Option<u32>
+    ensures { result ≡ (when ltb (first_of (oftener sheet.now) rows) rows gives Some (first_of (oftener sheet.now) rows) else None) }
+{
+    for j in 0..rows {
+        let found = is_oftener(sheet, j);
+        if found {
+            return Some(j);
+        }
+    }
+    None
+}
+
 // 7 (the wrong direction too), 10 for a row, 10 for the counts (the row is then the number of rows), back also 17; or it would be converted.
 pub fn refusal(sheet: &[u8], way: Way) -> Result<(), Stop>
     ensures { stopped_of result ≡ stop_of (is_forth way) sheet.now }
@@ -85,7 +111,7 @@ pub fn refusal(sheet: &[u8], way: Way) -> Result<(), Stop>
         });
     }
     let rows = ledger::rows_in(sheet) as u32;
-    let damaged = (0..rows).find(|row| is_rejected(sheet, *row));
+    let damaged = first_rejected(sheet, rows);
     if let Some(row) = damaged {
         return Err(Stop {
             refusal: Refusal::Damaged,
@@ -101,7 +127,7 @@ pub fn refusal(sheet: &[u8], way: Way) -> Result<(), Stop>
     if way == Way::Forth {
         return Ok(());
     }
-    let often = (0..rows).find(|row| is_oftener(sheet, *row));
+    let often = first_oftener(sheet, rows);
     match often {
         Some(row) => Err(Stop {
             refusal: Refusal::DrivenOften,

@@ -59,17 +59,21 @@ impl Total {
     }
 
     // Its sign and its size, a whole number of units of 2^-1074.
-    pub fn size(self) -> Signed
+    pub fn size(mut self) -> Signed
         ensures { (result ≡ signed_of (val self.limbs)) × (val result.limbs ≡ size_of_total (val self.limbs)) }
     {
-        rounding::sized(self.limbs)
+        let negative = rounding::sized(&mut self.limbs);
+        Signed {
+            negative,
+            limbs: self.limbs,
+        }
     }
 
     // The total rounded once.
-    pub fn rounded(self) -> f64
+    pub fn rounded(mut self) -> f64
         ensures { result ≡ round_total (val self.limbs) }
     {
-        let Signed { negative, limbs } = self.size();
-        rounding::round_size(negative, limbs)
+        let negative = rounding::sized(&mut self.limbs);
+        rounding::round_size(negative, &self.limbs)
     }
 }

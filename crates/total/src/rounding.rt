@@ -1,8 +1,8 @@
 // A number of 34 limbs in two's complement, rounded once.
-ghost use Rattle.std.specs.Prelude.{◌≡◌, ◌+◌, ◌-◌, ◌^◌, ◌<◌, ◌≤◌, length, take, nat_lt, slice_index, MatchOption};
+ghost use Rattle.std.specs.Prelude.{◌≡◌, ◌+◌, ◌-◌, ◌^◌, ◌<◌, ◌≤◌, length, take, nat_lt, nat_le, slice_index, MatchOption};
 ghost use Rattle.std.specs.Float.Ieee.{round};
 ghost use Rattle.std.specs.Float.{binary64};
-ghost use Rattle.total.specs.Total.{val, limbs_of, size_of_total, signed_of, N};
+ghost use Rattle.total.specs.Total.{val, limbs_of, size_of_total, Half, N};
 
 use super::LIMBS;
 use super::limbs::ripple;
@@ -32,10 +32,10 @@ fn negate(limbs: &mut [u64])
 }
 
 // A number without its sign: the two highest limbs, and whether anything is left below them, go to the one rounding.
-pub(crate) fn round_size(negative: bool, limbs: [u64; LIMBS]) -> f64
-    ensures { result ≡ round binary64 negative (val limbs) (2 ^ 1074) }
+pub(crate) fn round_size(negative: bool, limbs: &[u64; LIMBS]) -> f64
+    ensures { result ≡ round binary64 negative (val limbs.now) (2 ^ 1074) }
 {
-    let top = highest(&limbs).unwrap_or(0).max(1);
+    let top = highest(limbs).unwrap_or(0).max(1);
     let more = highest(&limbs[..top - 1]).is_some();
     let digits = (u128::from(limbs[top]) << 64) + u128::from(limbs[top - 1]);
     bits::rounded(negative, digits, more, 64 * (top as u64 - 1) + UNIT)
@@ -48,12 +48,13 @@ pub struct Signed {
     pub limbs: [u64; LIMBS],
 }
 
-pub(crate) fn sized(mut limbs: [u64; LIMBS]) -> Signed
-    ensures { (result ≡ signed_of (val limbs)) × (val result.limbs ≡ size_of_total (val limbs)) }
+// A total's limbs become those of its size, where they lie; whether it was negative.
+pub(crate) fn sized(limbs: &mut [u64; LIMBS]) -> bool
+    ensures { (result ≡ nat_le Half (val limbs.old)) × (limbs.new ≡ limbs_of (size_of_total (val limbs.old))) × (val limbs.new ≡ size_of_total (val limbs.old)) }
 {
     let negative = limbs[LIMBS - 1] >= TOP_BIT;
     if negative {
-        negate(&mut limbs);
+        negate(limbs);
     }
-    Signed { negative, limbs }
+    negative
 }

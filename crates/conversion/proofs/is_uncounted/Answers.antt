@@ -1,9 +1,8 @@
 -- The five counts, added up.
-use Rattle.std.proofs.Common.{◌≡◌, ◌+◌, ◌∙◌, ap, not, ℕ, List, [], ◌∷◌, zero-add, eqb, arith, rules, tests}
+use Rattle.std.proofs.Common.{◌+◌, ◌∙◌, ap, not, ℕ, List, [], ◌∷◌, zero-add, eqb, arith, rules, tests}
 use Rattle.std.proofs.lemmas.Iterator.{YieldsList-from_slice, YieldsList-from_map}
 use Rattle.std.proofs.lemmas.Iterator.Consumers.{sum_by_from_yields_List}
 use Rattle.std.proofs.lemmas.Iterator.Adapters.{fits_from_length, at_most_from_yields_List}
-use Rattle.std.specs.List.{sum_by}
 use Rattle.ledger.specs.Calls.{rows_in, count_of}
 use Rattle.conversion.specs.Conversion.{uncounted}
 use Rattle.conversion.proofs.is_uncounted.Goals as goal

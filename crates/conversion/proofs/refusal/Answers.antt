@@ -1,25 +1,11 @@
 -- Test by test, in their order.
-use Rattle.std.proofs.Common.{◌≡◌, ◌<◌, ◌≤◌, ◌∙◌, refl, sym, ap, arith, cond, ltb, Some, None, true, false, ℕ, rules, tests}
-use Rattle.std.proofs.lemmas.Iterator.{first_from_Range}
+use Rattle.std.proofs.Common.{◌≡◌, ◌∙◌, refl, sym, ap, arith, rules}
 use Rattle.ledger.specs.laws.Refusals.{sheet_of_few}
-use Rattle.ledger.specs.Calls.{is_sheet_of, rows_in}
-use Rattle.inspection.specs.laws.First.{found, found_some, found_none}
+use Rattle.inspection.specs.laws.First.{found_some, found_none}
 use Rattle.conversion.specs.declared.Way.TheVariants.{Forth, Back}
-use Rattle.conversion.specs.Conversion.{is_forth, says_before, first_of, rejected, oftener, stopped_of}
+use Rattle.conversion.specs.Conversion.{is_forth, says_before, stopped_of}
 use Rattle.conversion.proofs.Refused.{said, stop_7, stop_10, stop-counts, stop-none, stop_17, stop_0}
 use Rattle.conversion.proofs.refusal.Goals as goal
-use Rattle.conversion.proofs.refusal.Goals.{After-find-damaged, After-find-often}
-
--- the first row that the row tests reject, and the first that was driven other than once
-damaged : (c : After-find-damaged) → let f = first_of (rejected c.args.sheet.now) c.rows_in-rows.result in c.find-damaged.result ≡ cond (ltb f c.rows_in-rows.result) (Some f) None
-damaged c =
-    let test = rejected c.args.sheet.now in
-    found test _ _ (first_from_Range _ _ _ c.find-damaged.result (λ i. test i ≡ true) (λ i. test i ≡ false) c.find-damaged.ensures.ran (λ x q k. search (rules, tests)) (λ x q k. search (rules, tests)))
-
-often : (c : After-find-often) → let f = first_of (oftener c.args.sheet.now) c.rows_in-rows.result in c.find-often.result ≡ cond (ltb f c.rows_in-rows.result) (Some f) None
-often c =
-    let test = oftener c.args.sheet.now in
-    found test _ _ (first_from_Range _ _ _ c.find-often.result (λ i. test i ≡ true) (λ i. test i ≡ false) c.find-often.ensures.ran (λ x q k. search (rules, tests)) (λ x q k. search (rules, tests)))
 
 pub returns-then-not-says : goal.returns-then-not-says
 unfolding stopped_of
@@ -38,7 +24,7 @@ unfolding stopped_of
 returns-in-Some c =
     let a = c.args in
     let h = said a.sheet.now (is_forth a.way) _ _ c.word_before.ensures c.says.ensures ∙ c.if-not-says.false in
-    let k = found_some _ _ _ (damaged (goal.at.returns-in-Some c).After-find-damaged) _ c.in-Some.is in
+    let k = found_some _ _ _ c.first_rejected-damaged.ensures _ c.in-Some.is in
     stop_10 (is_forth a.way) a.sheet.now h _ _ c.rows_in-rows.ensures k.0 (rw k.0 k.1)
 
 pub returns-then-is_uncounted : goal.returns-then-is_uncounted
@@ -46,7 +32,7 @@ unfolding stopped_of
 returns-then-is_uncounted c =
     let a = c.args in
     let h = said a.sheet.now (is_forth a.way) _ _ c.word_before.ensures c.says.ensures ∙ c.if-not-says.false in
-    let k = found_none _ _ _ (damaged (goal.at.returns-then-is_uncounted c).After-find-damaged) c.in_default.is in
+    let k = found_none _ _ _ c.first_rejected-damaged.ensures c.in_default.is in
     stop-counts (is_forth a.way) a.sheet.now h _ _ c.rows_in-rows.ensures refl k (sym c.is_uncounted.ensures ∙ c.if-is_uncounted.true)
 
 pub returns-then-eq : goal.returns-then-eq
@@ -54,7 +40,7 @@ unfolding stopped_of is_forth
 returns-then-eq c =
     let a = c.args in
     let h = said a.sheet.now (is_forth a.way) _ _ c.word_before.ensures c.says.ensures ∙ c.if-not-says.false in
-    let k = found_none _ _ _ (damaged (goal.at.returns-then-eq c).After-find-damaged) c.in_default.is in
+    let k = found_none _ _ _ c.first_rejected-damaged.ensures c.in_default.is in
     let f : a.way ≡ Forth = search rules in
     stop-none (is_forth a.way) a.sheet.now h _ _ c.rows_in-rows.ensures refl k (sym c.is_uncounted.ensures ∙ c.if-is_uncounted.false) (ap is_forth f)
 
@@ -63,8 +49,8 @@ unfolding stopped_of is_forth
 returns-in-Some-often c =
     let a = c.args in
     let h = said a.sheet.now (is_forth a.way) _ _ c.word_before.ensures c.says.ensures ∙ c.if-not-says.false in
-    let k = found_none _ _ _ (damaged (goal.at.returns-in-Some-often c).After-find-damaged) c.in_default.is in
-    let o = found_some _ _ _ (often (goal.at.returns-in-Some-often c).After-find-often) _ c.in-Some-often.is in
+    let k = found_none _ _ _ c.first_rejected-damaged.ensures c.in_default.is in
+    let o = found_some _ _ _ c.first_oftener-often.ensures _ c.in-Some-often.is in
     let f : a.way ≡ Back = search rules in
     stop_17 (is_forth a.way) a.sheet.now h _ _ c.rows_in-rows.ensures refl k (sym c.is_uncounted.ensures ∙ c.if-is_uncounted.false) (ap is_forth f) _ o.0 (rw o.0 o.1)
 
@@ -73,7 +59,7 @@ unfolding stopped_of is_forth
 returns-in-None c =
     let a = c.args in
     let h = said a.sheet.now (is_forth a.way) _ _ c.word_before.ensures c.says.ensures ∙ c.if-not-says.false in
-    let k = found_none _ _ _ (damaged (goal.at.returns-in-None c).After-find-damaged) c.in_default.is in
-    let o = found_none _ _ _ (often (goal.at.returns-in-None c).After-find-often) c.in-None.is in
+    let k = found_none _ _ _ c.first_rejected-damaged.ensures c.in_default.is in
+    let o = found_none _ _ _ c.first_oftener-often.ensures c.in-None.is in
     let f : a.way ≡ Back = search rules in
     stop_0 (is_forth a.way) a.sheet.now h _ _ c.rows_in-rows.ensures refl k (sym c.is_uncounted.ensures ∙ c.if-is_uncounted.false) (ap is_forth f) _ refl o

@@ -1,5 +1,5 @@
 -- What is done and what is left is the same at each turn.
-use Rattle.std.proofs.Common.{◌≤◌, ◌<◌, refl, ◌∙◌, arith, length}
+use Rattle.std.proofs.Common.{◌≤◌, ◌∙◌, arith, length}
 use native.Mathlib.Nat.{sub-zero}
 use Rattle.ledger.specs.Sheet.{row_place}
 use Rattle.conversion.specs.Conversion.{is_forth}

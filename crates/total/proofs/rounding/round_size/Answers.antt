@@ -1,6 +1,5 @@
 -- The two limbs from the highest down, and whether anything is left below them, are what is rounded.
-use Rattle.std.proofs.Common.{ℕ, ◌≡◌, ◌+◌, ◌-◌, ◌*◌, ◌%◌, ◌^◌, ◌<◌, take, ap, ◌∙◌, max, arith, w64}
-use borrow.Author.Rules.{elem_Fits}
+use Rattle.std.proofs.Common.{ℕ, ◌≡◌, ◌+◌, ◌-◌, ◌*◌, ◌%◌, ◌^◌, ◌<◌, take, ap, ◌∙◌, max, arith, rules}
 use Rattle.bits.specs.Rounded.{rounded_of}
 use Rattle.total.specs.laws.Limbs.{Fit}
 use Rattle.total.proofs.TopLimbs.{found_some, round_found}
@@ -12,11 +11,10 @@ joined x y a b e k h = omega arith
 
 pub returns : goal.returns
 returns c =
-    let l = c.args.limbs in
+    let l = c.args.limbs.now in
     let t = c.max-top.result in
     let more = c.is_some-more.result in
-    let g = c.well_formed.1.0 in
-    let f : Fit l = λ i. (elem_Fits w64 w64 l g.0 i g.1.1 tt).fits in
+    let f : Fit l = λ i. search rules in
     c.rounded.ensures
     ∙ ap (λ (w : ℕ). rounded_of c.args.negative w more (64 * (t - 1) + 1266)) (joined _ _ _ _ c.from.ensures c.from-2.ensures (f t))
     ∙ round_found c.args.negative l c.highest.result t more (omega arith) f c.highest.ensures (c.max-top.ensures ∙ ap (λ n. max n 1) c.unwrap_or.ensures)

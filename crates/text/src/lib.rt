@@ -61,10 +61,10 @@ fn put_byte(out: &mut [u8], at: usize, b: u8) -> usize
     at + 1
 }
 
-// The last k digits.
-fn put_digits(out: &mut [u8], at: usize, form: Form, k: usize, n: u64) -> usize
+// The last k digits. The form is lent: handed on by value it is copied at every digit.
+fn put_digits(out: &mut [u8], at: usize, form: &Form, k: usize, n: u64) -> usize
     requires { at + k ≤ length out.old }
-    ensures put { Put out.old out.new at result (digits_of form.zeros form.base k n) }
+    ensures put { Put out.old out.new at result (digits_of form.now.zeros form.now.base k n) }
     ensures upper_bound { result ≤ at + k }
 {
     if k == 0 {
@@ -96,7 +96,7 @@ pub fn put_decimal(out: &mut [u8], at: usize, n: u64, after: u8) -> usize
     if lacks(out.len(), at, DECIMAL.most + 1) {
         return at;
     }
-    let next = put_digits(out, at, DECIMAL, DECIMAL.most, n);
+    let next = put_digits(out, at, &DECIMAL, DECIMAL.most, n);
     put_byte(out, next, after)
 }
 
@@ -109,7 +109,7 @@ pub fn put_hex(out: &mut [u8], at: usize, all: bool, n: u64) -> usize
         return at;
     }
     let form = if all { PATTERN } else { HEX };
-    put_digits(out, at, form, 16, n)
+    put_digits(out, at, &form, 16, n)
 }
 
 // A bit pattern's 16 digits, and the byte after them.

@@ -6,6 +6,8 @@ mod kinds;
 mod list;
 mod spelling;
 
+ghost use Rattle.std.specs.Prelude.{◌≡◌, cond, ltb, [], length};
+
 use files::{Output, STDOUT, Source, WORD};
 use kinds::Kind;
 use list::Tally;
@@ -28,7 +30,9 @@ fn tallied(rt: &HostRuntime, path: &[u8], kind: Kind) -> Tally {
 }
 
 // How much of a word is taken: all of it, or none where it is longer than a path can be.
-fn kept(word: &[u8]) -> &[u8] {
+fn kept(word: &[u8]) -> &[u8]
+    ensures { result.now ≡ cond (ltb 4096 (length word.now)) [] word.now }
+{
     if word.len() > 4096 { &[] } else { word }
 }
 

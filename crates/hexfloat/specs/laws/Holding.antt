@@ -1,6 +1,6 @@
 -- Digits held are the number that they spell. Assumes nothing.
-use Rattle.std.specs.Prelude.{◌≡◌, refl, ℕ, zero, suc, ◌+◌, ◌*◌, ◌^◌, ◌≤◌, ◌<◌, Bool, true, false, cond, ◌||◌, Option, Some, None, List, [], ◌∷◌, ◌++◌, ltb, length}
-use Rattle.std.proofs.Common.{sym, ap, ◌∙◌, div-one, arith, ltb-true, ltb-false}
+use Rattle.std.specs.Prelude.{◌≡◌, refl, ℕ, zero, suc, ◌+◌, ◌*◌, ◌/◌, ◌%◌, ◌^◌, ◌≤◌, ◌<◌, Bool, true, false, cond, ◌||◌, Option, Some, None, List, [], ◌∷◌, ◌++◌, ltb, length}
+use Rattle.std.proofs.Common.{sym, ap, ◌∙◌, div-one, div-add-mod', arith, ltb-true, ltb-false}
 use Rattle.std.proofs.Math.Nat.{mod-one}
 use Rattle.std.specs.Option.{option_and_then}
 use Rattle.std.proofs.lemmas.Option.{same_Some}
@@ -41,6 +41,13 @@ behind n w e d m l K =
     or_comm true false = refl
     or_comm false true = refl
     or_comm false false = refl
+
+-- so too in two halves of 64 bits
+sixteen_fold : (a b d : ℕ) → (a * 16 + b / 2 ^ 60) * 2 ^ 64 + (b % 2 ^ 60 * 16 + d) ≡ (a * 2 ^ 64 + b) * 16 + d
+sixteen_fold a b d = go (b / 2 ^ 60) (b % 2 ^ 60) (div-add-mod' b (2 ^ 60))
+  where
+    go : (q r : ℕ) → q * 2 ^ 60 + r ≡ b → (a * 16 + q) * 2 ^ 64 + (r * 16 + d) ≡ (a * 2 ^ 64 + b) * 16 + d
+    go q r e = omega arith
 
 four_more : (k : ℕ) → 4 * (k + 1) ≡ 4 * k + 4
 four_more k = omega arith

@@ -76,7 +76,11 @@ line_into t s i at =
     let l = part_at 10 t at in
     when leb (length t) at gives came s (halt_at 18 (i + 2) 1) else
     when not (eqb (line_halt (i + 2) l).refusal 0) gives came s (line_halt (i + 2) l) else
-    came (edit_of s i (entry_of l)) (when eqb (edit_refusal s i (value_in l 0)) 0 gives fine else halt_at (edit_refusal s i (value_in l 0)) (i + 2) 0)
+    came (edit_of s i (entry_of l)) (halt_at (edit_refusal s i (value_in l 0)) (i + 2) 0)
+
+-- what the code says of it: no place, where nothing refuses
+unfoldable pub told : Came → Came
+told w = came w.sheet (when eqb w.end.refusal 0 gives fine else w.end)
 
 -- so many rows from i on; then the text must be at its end
 unfoldable pub rows_into : List ℕ → ℕ → List ℕ → ℕ → ℕ → Came

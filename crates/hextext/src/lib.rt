@@ -7,7 +7,7 @@ mod row;
 
 ghost use Rattle.std.specs.Prelude.{◌≡◌, ◌≤◌, ◌<◌};
 ghost use Rattle.ledger.specs.Sheet.{most_rows};
-ghost use Rattle.hextext.specs.HexText.{halt_of, came, line_into, rows_into, text_into};
+ghost use Rattle.hextext.specs.HexText.{halt_of, came, told, line_into, rows_into, text_into};
 
 use answer::Refusal;
 pub use count::rows;
@@ -36,7 +36,7 @@ pub(crate) fn malformed(line: u32, column: usize) -> Halt
 // One line from a place of the text, into row i.
 fn read_line(sheet: &mut [u8], text: &[u8], i: u32, at: usize) -> Result<(), Halt>
     requires { i < most_rows }
-    ensures { came sheet.new (halt_of result) ≡ line_into text.now sheet.old i at }
+    ensures { came sheet.new (halt_of result) ≡ told (line_into text.now sheet.old i at) }
 {
     if text.len() <= at {
         return Err(malformed(i + 2, 1));

@@ -27,7 +27,7 @@ use Rattle.hexline.specs.Parts.{part_at, next_of}
 use Rattle.hexline.specs.Fields.{value_in}
 use Rattle.spelt.specs.laws.Digits.{read-decimal}
 use Rattle.spelt.specs.laws.Fractions.{Without}
-use Rattle.hextext.specs.HexText.{fine, entry_of, differ_of, halts_at, line_halt, came, line_into, rows_into, count_of, count_into, text_into}
+use Rattle.hextext.specs.HexText.{halt_at, fine, entry_of, differ_of, halts_at, line_halt, came, line_into, rows_into, count_of, count_into, text_into}
 use Rattle.hexkept.specs.Entered.{Fits, Entered, AllEntered}
 use Rattle.hexkept.specs.laws.Parts.{part_there, next_there, past}
 use Rattle.hexkept.specs.laws.Plain.{without-second, plain-decimal}
@@ -98,7 +98,7 @@ module _ (e : Entry) (F : Fits e) (known : e.function ≤ last) (stays : e.funct
     unfolding edit_of
     edits = rw (accepts, row_is) (edit_rows vs r few i row h good)
 
-    line_into_lem : line_into text (encode vs) i (length x) ≡ came (encode (set vs i row)) fine
+    line_into_lem : line_into text (encode vs) i (length x) ≡ came (encode (set vs i row)) (halt_at 0 (i + 2) 0)
     unfolding line_into before
     line_into_lem =
         let there : part_at 10 text (length x) ≡ line = part_there 10 x line (10 ∷ rest) (no_end (function_in row) (others_in row)) refl in
@@ -129,11 +129,11 @@ module _ (ds : List Row) (r : Rows ds) (k : ℕ) (few : length ds + suc k ≤ mo
   standing-length : length standing ≡ length ds + suc k
   standing-length = length-append ds (blank_row ∷ blanks k) ∙ ap (λ (n : ℕ). length ds + suc n) (length-replicate k blank_row)
 
-  row_into : line_into (x ++ (line_in w ++ (10 ∷ rest))) (encode standing) (length ds) (length x) ≡ came (encode (ds ++ (w ∷ blanks k))) fine
+  row_into : line_into (x ++ (line_in w ++ (10 ∷ rest))) (encode standing) (length ds) (length x) ≡ came (encode (ds ++ (w ∷ blanks k))) (halt_at 0 (length ds + 2) 0)
   row_into =
       rw E.is
       (line_into_lem E.entry E.fits E.known E.stays standing standing_rows (omega (arith, standing-length)) (length ds) (omega (arith, standing-length)) x rest
-      ∙ ap (λ (ws : List Row). came (encode ws) fine) (set-append_seam ds blank_row (blanks k) (row_of E.entry)))
+      ∙ ap (λ (ws : List Row). came (encode ws) (halt_at 0 (length ds + 2) 0)) (set-append_seam ds blank_row (blanks k) (row_of E.entry)))
 
 row_next : (w : Row) (x rest : List ℕ) → next_of 10 (x ++ (line_in w ++ (10 ∷ rest))) (length x) ≡ length (x ++ (line_in w ++ (10 ∷ [])))
 unfolding before

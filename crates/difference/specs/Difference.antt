@@ -25,6 +25,12 @@ number_of (Err (NotASheet k)) = 7
 number_of (Err Unequal) = 13
 number_of (Err (Damaged k i)) = 10
 
+-- the row that it is about, 0 where it is about none
+abbrev pub row_of : Stop → ℕ
+row_of (NotASheet k) = 0
+row_of Unequal = 0
+row_of (Damaged k i) = i
+
 -- a sheet's first row that refusal 10's row tests reject, if there is one
 unfoldable pub rejected_of : List ℕ → Side → Result ⊤ Stop
 rejected_of s k =

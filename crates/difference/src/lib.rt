@@ -2,13 +2,13 @@
 // Every call answers for any bytes.
 #![tactic(auto)]
 
-ghost use Rattle.std.specs.Prelude.{◌≡◌, true, ltb, nat_abs, ⊤};
+ghost use Rattle.std.specs.Prelude.{◌≡◌, true, ltb, nat_abs, Err, ⊤};
 ghost use Rattle.std.specs.Float.Ieee.Scale.{finite};
 ghost use Rattle.laws.specs.Arithmetic.{float};
 ghost use Rattle.total.specs.Total.{val};
 ghost use Rattle.ledger.specs.Calls.{is_sheet};
 ghost use Rattle.difference.specs.Steps.{steps_of};
-ghost use Rattle.difference.specs.Difference.{rejected_of, stop_of, agree, distance_of, change_of, rows_of, changes, growth_of, below_zero};
+ghost use Rattle.difference.specs.Difference.{number_of, row_of, rejected_of, stop_of, agree, distance_of, change_of, rows_of, changes, growth_of, below_zero};
 
 use ledger::Class;
 use limbs::{minus, raised};
@@ -32,6 +32,29 @@ pub enum Stop {
     Unequal,
     // 10: the sheet's first row that refusal 10's row tests reject.
     Damaged(Side, u32),
+}
+
+impl Stop {
+    // Its number in the documents.
+    pub fn number(self) -> u8
+        ensures { result ≡ number_of (Err self) }
+    {
+        match self {
+            Stop::NotASheet(_) => 7,
+            Stop::Unequal => 13,
+            Stop::Damaged(..) => 10,
+        }
+    }
+
+    // The row that it is about, 0 where it is about none.
+    pub fn row(self) -> u32
+        ensures { result ≡ row_of self }
+    {
+        match self {
+            Stop::Damaged(_, row) => row,
+            _ => 0,
+        }
+    }
 }
 
 // How a row differs.

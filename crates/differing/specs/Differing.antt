@@ -1,5 +1,5 @@
 -- What legdiff prints (02, [5]): for each row that differs a line, and the end; or why it refuses. s is the old sheet, t the new one. Definitions only.
-use Rattle.std.specs.Prelude.{ℕ, zero, suc, Option, Some, None, List, [], ◌++◌, ℤ, nat_abs}
+use Rattle.std.specs.Prelude.{ℕ, zero, suc, Option, Some, None, Err, List, [], ◌++◌, eqb, ℤ, nat_abs}
 use Rattle.laws.specs.Ascii.{ascii}
 use Rattle.laws.specs.Ladder.{when◌gives◌else◌}
 use Rattle.ledger.specs.declared.row.Class.{Class}
@@ -14,7 +14,7 @@ use Rattle.difference.specs.declared.Stop.{Stop}
 use Rattle.difference.specs.declared.Stop.TheVariants.{NotASheet, Unequal, Damaged}
 use Rattle.difference.specs.declared.Change.{Change}
 use Rattle.difference.specs.declared.Change.TheVariants.{Same, Moved, Alike, First, Steps}
-use Rattle.difference.specs.Difference.{agree, change_of, changes, rows_of, growth_of, below_zero}
+use Rattle.difference.specs.Difference.{number_of, row_of, agree, change_of, changes, rows_of, growth_of, below_zero}
 
 -- ---- what a row holds
 
@@ -98,10 +98,11 @@ text_of s t = lines_of s t (rows_in s) ++ end_of s t
 -- ---- refusals
 
 -- what stands in front of a refused file's name, or of the line's end where none is named: refused 7 NAME, refused 13, refused 10 row I NAME
-unfoldable pub stop_text : Stop → List ℕ
-stop_text (NotASheet k) = ascii "refused 7 "
-stop_text Unequal = ascii "refused 13"
-stop_text (Damaged k i) = ascii "refused 10 row " ++ field i
+unfoldable pub stop_text : ℕ → ℕ → List ℕ
+stop_text refusal row =
+    when eqb refusal 13 gives ascii "refused 13" else
+    when eqb refusal 10 gives ascii "refused 10 row " ++ field row else
+    ascii "refused 7 "
 
 -- the name of the file that it is about; nothing where it is about both
 abbrev pub name_in : List ℕ → List ℕ → Stop → List ℕ
@@ -113,4 +114,4 @@ name_in old new (Damaged New i) = new
 
 -- the line of a refusal: the file that it is about stands last, by the name that was given
 unfoldable pub refused_text : List ℕ → List ℕ → Stop → List ℕ
-refused_text old new q = stop_text q ++ name_in old new q ++ end
+refused_text old new q = stop_text (number_of (Err q)) (row_of q) ++ name_in old new q ++ end

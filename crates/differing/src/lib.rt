@@ -13,7 +13,6 @@ ghost use Rattle.text.specs.Writing.{Put};
 ghost use Rattle.differing.specs.Differing.{field, last, row_text, line_of, end_of, stop_text};
 
 use change::put_change;
-use difference::Stop;
 use exact::put_whole;
 use side::put_side;
 use text::{put_bytes, put_decimal};
@@ -80,13 +79,16 @@ fn put_rejected(out: &mut [u8], row: u32) -> usize
 }
 
 // What stands in front of the name of a refused file, or of the line's end where neither is named.
-pub fn put_stop(out: &mut [u8; LINE], stop: Stop) -> usize
-    ensures put { Put out.old out.new 0 result (stop_text stop) }
+// Kept: the contract of this public function, put_stop, holds for every number; an enum would ask more of its callers.
+pub fn put_stop(out: &mut [u8; LINE], refusal: u8, row: u32) -> usize
+    ensures put { Put out.old out.new 0 result (stop_text refusal row) }
     ensures upper_bound { result ≤ length out.new }
 {
-    match stop {
-        Stop::NotASheet(_) => put_bytes(out, 0, b"refused 7 "),
-        Stop::Unequal => put_bytes(out, 0, b"refused 13"),
-        Stop::Damaged(_, row) => put_rejected(out, row),
+    if refusal == 13 {
+        return put_bytes(out, 0, b"refused 13");
     }
+    if refusal == 10 {
+        return put_rejected(out, row);
+    }
+    put_bytes(out, 0, b"refused 7 ")
 }

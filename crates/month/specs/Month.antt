@@ -54,6 +54,11 @@ abbrev pub number_of : Stop → ℕ
 number_of NotASheet = 7
 number_of (Damaged i) = 10
 
+-- and the row that it is about, 0 where it is about none
+abbrev pub row_of : Stop → ℕ
+row_of NotASheet = 0
+row_of (Damaged i) = i
+
 -- ---- what the legs come to
 
 -- how many are of class k

@@ -1,7 +1,10 @@
 // What a report and its steps hold. (A function and a struct of one name do not stand in one file.)
+ghost use Rattle.std.specs.Prelude.{◌≡◌};
+ghost use Rattle.month.specs.Month.{number_of, row_of};
+
 use total::Total;
 
-// The numbers of two classes, as `ledger::class_number` gives them.
+// The numbers of two classes, as `inspection::class_number` gives them.
 pub(crate) const FINITE: usize = 1;
 
 pub(crate) const REFUSED: usize = 4;
@@ -13,6 +16,28 @@ pub enum Stop {
     NotASheet,
     // 10: its first row that refusal 10's row tests reject.
     Damaged(u32),
+}
+
+impl Stop {
+    // Its number in the documents.
+    pub fn number(self) -> u8
+        ensures { result ≡ number_of self }
+    {
+        match self {
+            Stop::NotASheet => 7,
+            Stop::Damaged(_) => 10,
+        }
+    }
+
+    // The row that it is about, 0 where it is about none.
+    pub fn row(self) -> u32
+        ensures { result ≡ row_of self }
+    {
+        match self {
+            Stop::NotASheet => 0,
+            Stop::Damaged(row) => row,
+        }
+    }
 }
 
 // A finite first answer, as a bit pattern, and where it stands.

@@ -1,22 +1,27 @@
--- By what refuses.
-use Rattle.std.proofs.Common.{arith}
+-- By the refusal's number.
+use native.Mathlib.Omega.{arith}
+use borrow.Author.Tests.{eq-eqb, ne_eqb}
 use Rattle.laws.specs.Ascii.{ascii}
 use Rattle.text.specs.laws.Writing.{placed}
 use Rattle.differing.specs.Differing.{stop_text}
 use Rattle.differing.proofs.put_stop.Goals as goal
 
-pub returns-in-NotASheet : goal.returns-in-NotASheet
+pub returns-then-refusal-eq13 : goal.returns-then-refusal-eq13
 unfolding stop_text
-returns-in-NotASheet c =
-    let p = placed c.args.out.now 0 10 10 (ascii "refused 7 ") (omega arith) (omega arith) (omega arith) c.put_bytes.ensures in
-    rw c.in-NotASheet.is record { put = p.0; upper_bound = omega (arith, p.1, p.2) }
+returns-then-refusal-eq13 c =
+    let a = c.args in
+    let p = placed a.out.now 0 10 10 (ascii "refused 13") (omega arith) (omega arith) (omega arith) c.put_bytes.ensures in
+    rw (eq-eqb a.refusal 13 c.if-refusal-eq13.true) record { put = p.0; upper_bound = omega (arith, p.1, p.2) }
 
-pub returns-in-Unequal : goal.returns-in-Unequal
+pub returns-then-refusal-eq10 : goal.returns-then-refusal-eq10
 unfolding stop_text
-returns-in-Unequal c =
-    let p = placed c.args.out.now 0 10 10 (ascii "refused 13") (omega arith) (omega arith) (omega arith) c.put_bytes-in-Unequal.ensures in
-    rw c.in-Unequal.is record { put = p.0; upper_bound = omega (arith, p.1, p.2) }
+returns-then-refusal-eq10 c =
+    let a = c.args in
+    rw (ne_eqb a.refusal 13 c.if-refusal-eq13.false, eq-eqb a.refusal 10 c.if-refusal-eq10.true) c.put_rejected.ensures
 
-pub returns-in-Damaged : goal.returns-in-Damaged
+pub returns : goal.returns
 unfolding stop_text
-returns-in-Damaged c = rw c.in-Damaged.is c.put_rejected.ensures
+returns c =
+    let a = c.args in
+    let p = placed a.out.now 0 10 10 (ascii "refused 7 ") (omega arith) (omega arith) (omega arith) c.put_bytes-2.ensures in
+    rw (ne_eqb a.refusal 13 c.if-refusal-eq13.false, ne_eqb a.refusal 10 c.if-refusal-eq10.false) record { put = p.0; upper_bound = omega (arith, p.1, p.2) }

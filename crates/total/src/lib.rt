@@ -70,10 +70,10 @@ impl Total {
     }
 
     // The total rounded once.
-    pub fn rounded(mut self) -> f64
+    pub fn rounded(self) -> f64
         ensures { result ≡ round_total (val self.limbs) }
     {
-        let negative = rounding::sized(&mut self.limbs);
-        rounding::round_size(negative, &self.limbs)
+        let size = self.size();
+        rounding::round_size(size.negative, &size.limbs)
     }
 }

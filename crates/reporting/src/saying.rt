@@ -8,7 +8,7 @@ ghost use Rattle.reporting.specs.Reporting.{head_of, Told, ToldAll};
 
 use super::parts::Apart;
 use files::{Output, WORD};
-use month::{Report, Stop};
+use month::Report;
 use monthly::ROOM;
 
 // The report, as a page.
@@ -27,8 +27,7 @@ fn put_head(out: &mut [u8; ROOM], apart: Apart) -> usize
 {
     match apart {
         Apart::Unread => monthly::put_unread(out),
-        Apart::Stopped(Stop::NotASheet) => monthly::put_stop(out, 7, 0),
-        Apart::Stopped(Stop::Damaged(row)) => monthly::put_stop(out, 10, row),
+        Apart::Stopped(stop) => monthly::put_stop(out, stop.number(), stop.row()),
     }
 }
 

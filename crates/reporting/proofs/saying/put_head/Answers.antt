@@ -1,22 +1,21 @@
 -- By what keeps it out.
-use Rattle.std.proofs.Common.{ap, ◌∙◌, ◌≡◌}
+use Rattle.std.proofs.Common.{◌≡◌, refl}
+use Rattle.month.specs.declared.parts.Stop.{Stop}
 use Rattle.month.specs.declared.parts.Stop.TheVariants.{NotASheet, Damaged}
+use Rattle.month.specs.Month.{number_of, row_of}
+use Rattle.monthly.specs.Monthly.{stop_text}
 use Rattle.reporting.specs.declared.parts.Apart.TheVariants.{Stopped}
 use Rattle.reporting.specs.Reporting.{head_of}
 use Rattle.reporting.proofs.saying.put_head.Goals as goal
+
+stopped : (s : Stop) → head_of (Stopped s) ≡ stop_text (number_of s) (row_of s)
+unfolding head_of
+stopped NotASheet = refl
+stopped (Damaged i) = refl
 
 pub returns-in-Unread : goal.returns-in-Unread
 unfolding head_of
 returns-in-Unread c = rw c.in-Unread.is c.put_unread.ensures
 
-pub returns-in-Stopped-NotASheet : goal.returns-in-Stopped-NotASheet
-unfolding head_of
-returns-in-Stopped-NotASheet c =
-    let k : c.in-Stopped-NotASheet.field-0 ≡ NotASheet = rw c.in-Stopped-NotASheet.is at c.in-Stopped-NotASheet.field-0-is in
-    rw (c.in-Stopped-NotASheet.is ∙ ap Stopped k) c.put_stop.ensures
-
-pub returns-in-Stopped-Damaged : goal.returns-in-Stopped-Damaged
-unfolding head_of
-returns-in-Stopped-Damaged c =
-    let k : c.in-Stopped-Damaged.field-0 ≡ Damaged c.in-Stopped-Damaged.row = rw c.in-Stopped-Damaged.is at c.in-Stopped-Damaged.field-0-is in
-    rw (c.in-Stopped-Damaged.is ∙ ap Stopped k) c.put_stop-in-Stopped-Damaged.ensures
+pub returns-in-Stopped : goal.returns-in-Stopped
+returns-in-Stopped c = rw (c.in-Stopped.is, stopped c.in-Stopped.stop, ← c.number.ensures, ← c.row.ensures) c.put_stop.ensures

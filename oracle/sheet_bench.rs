@@ -27,7 +27,7 @@ impl Sheets {
         let sheet = || RefCell::new(vec![0u8; 328 + 48 * rows as usize]);
         let sheets = Sheets { rows, ours: sheet(), theirs: sheet() };
         assert_eq!(library::blank(&mut sheets.ours.borrow_mut(), rows), 0);
-        assert_eq!(twin::ledger::number(twin::ledger::make_blank(&mut sheets.theirs.borrow_mut(), rows)), 0);
+        assert!(twin::ledger::make_blank(&mut sheets.theirs.borrow_mut(), rows).is_ok());
         sheets
     }
 
@@ -37,7 +37,7 @@ impl Sheets {
 
     fn by_twin(&self, (row, angle, times): Edit, m: f64) -> u8 {
         let entry = twin::sheet::Entry { function: 5, a: angle.to_bits(), b: m.to_bits(), c: 0, times };
-        twin::ledger::number(twin::sheet::edit(&mut self.theirs.borrow_mut(), row % self.rows, entry))
+        twin::sheet::edit(&mut self.theirs.borrow_mut(), row % self.rows, entry).err().map_or(0, |refused| refused.number())
     }
 }
 

@@ -61,7 +61,7 @@ fn put_byte(out: &mut [u8], at: usize, b: u8) -> usize
     at + 1
 }
 
-// The last k digits. The form is lent: handed on by value it is copied at every digit.
+// The last k digits. The form is lent, since by value it is copied at every digit, and the last digit is worked out first, so that one division serves it and those before it.
 fn put_digits(out: &mut [u8], at: usize, form: &Form, k: usize, n: u64) -> usize
     requires { at + k ≤ length out.old }
     ensures put { Put out.old out.new at result (digits_of form.now.zeros form.now.base k n) }
@@ -73,8 +73,9 @@ fn put_digits(out: &mut [u8], at: usize, form: &Form, k: usize, n: u64) -> usize
     if !form.zeros && n < form.base {
         return put_byte(out, at, glyph(n));
     }
+    let last = glyph(n % form.base);
     let next = put_digits(out, at, form, k - 1, n / form.base);
-    put_byte(out, next, glyph(n % form.base))
+    put_byte(out, next, last)
 }
 
 // Bytes as they are.

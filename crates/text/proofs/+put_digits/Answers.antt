@@ -22,4 +22,4 @@ returns-clause-put t c =
       | else-not-form-via-else-not-form w ↦ rw w.if-not-form.false
     ] in
     more_digits f.zeros f.base c.args.n c.args.out.now c.args.at c.args.k _ c.if-k-eq0.false more
-    c.glyph-2.ensures (omega (arith, c.put_byte-2.ensures.next)) c.put_digits-next.ensures.put c.put_byte-2.ensures
+    c.glyph-last.ensures (omega (arith, c.put_byte-2.ensures.next)) c.put_digits-next.ensures.put c.put_byte-2.ensures

@@ -11,7 +11,6 @@ PROMISED = {('runner', 'specs.laws.Law'), ('runner', 'specs.laws.Whole')}
 # Laws that proofs cited when they landed, and that today's check finds no need of: they stand (docs/PORT.md, docs/DESIGN-PASS.md).
 STANDING = {
     (('rj', 'specs.laws.Counts'), 'rj_inside'), (('text', 'specs.laws.Digits'), 'if_below'),
-    (('ledger', 'specs.laws.Refusals'), 'read_48'), (('ledger', 'specs.laws.Rows'), 'refusal_words'),
 }
 
 

@@ -57,6 +57,7 @@ pub fn cosine_by(square: u64) -> f64
 }
 
 // Within |x| 2^-52 of x - x^3/3! + .. + x^41/41!, never above 1, odd, and x itself for |x| < 2^-30.
+#[inline]
 pub fn sine(x: f64) -> Result<Answer, Refusal>
     ensures { (result ≡ sine_of x) × SineWithin 48 x result × SineWithin 52 x result × UpToOne result }
 {

@@ -58,7 +58,7 @@ fn send_refusal(rt: &HostRuntime, out: Output, old: &[u8], new: &[u8], stop: Sto
     ensures { Wrote out (refused_text old.now new.now stop) result }
 {
     let mut line = [0u8; LINE];
-    let n = differing::put_stop(&mut line, stop);
+    let n = differing::put_stop(&mut line, stop.number(), stop.row());
     out.put(rt, &line[0..n])
         .put(rt, name_in(stop, old, new))
         .put(rt, b"\n")

@@ -13,7 +13,7 @@ use Rattle.ledger.specs.Sheet.{no_class, function_in, refusal_in, first_in, clas
 use Rattle.ledger.specs.Class.{class_at}
 use Rattle.ledger.specs.Calls.{row_in, row_refusal, read_of, share_of}
 use Rattle.ledger.specs.laws.Fields.{pattern_there, pattern-none}
-use Rattle.ledger.specs.laws.Refusals.{read_48}
+use Rattle.ledger.specs.laws.Refusals.{length-row, readable, sheet_length}
 use Rattle.inspection.specs.Rows.{sound_row, class_in, word_of, value_in}
 
 -- past the end there is no word
@@ -27,7 +27,7 @@ module _ (s : List ℕ) (i : ℕ) where
   either P p q = go (eqb (row_refusal s i) 0) refl
     where
       go : (b : Bool) → eqb (row_refusal s i) 0 ≡ b → P b (cond b (row_in s i) [])
-      go true e = p (read_48 s i (eqb-true _ _ e))
+      go true e = let k = readable s i (eqb-true _ _ e) in p (length-row s (sheet_length s k.0) i k.1)
       go false e = q
 
   -- ---- its share

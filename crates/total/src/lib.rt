@@ -7,6 +7,7 @@ ghost use Rattle.total.specs.Total.{val, limbs_of, add_of, take_of, size_of_tota
 mod limbs;
 mod rounding;
 
+use rounding::TOP_BIT;
 pub use rounding::{Signed, highest};
 
 // 2,176 digits: 2,098 of the largest value, 16 for how often it counts, and room for many of them.
@@ -59,20 +60,25 @@ impl Total {
     }
 
     // Its sign and its size, a whole number of units of 2^-1074.
-    pub fn size(mut self) -> Signed
+    pub fn size(self) -> Signed
         ensures { (result ≡ signed_of (val self.limbs)) × (val result.limbs ≡ size_of_total (val self.limbs)) }
     {
-        let negative = rounding::sized(&mut self.limbs);
-        Signed {
-            negative,
-            limbs: self.limbs,
-        }
+        let limbs = self.limbs;
+        let mut size = Signed {
+            negative: false,
+            limbs,
+        };
+        size.negative = rounding::sized(&mut size.limbs);
+        size
     }
 
-    // The total rounded once.
+    // The total rounded once. One that is not below zero is its own size, and is rounded where it lies.
     pub fn rounded(self) -> f64
         ensures { result ≡ round_total (val self.limbs) }
     {
+        if self.limbs[LIMBS - 1] < TOP_BIT {
+            return rounding::round_size(false, &self.limbs);
+        }
         let size = self.size();
         rounding::round_size(size.negative, &size.limbs)
     }

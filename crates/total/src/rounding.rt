@@ -8,7 +8,7 @@ use super::LIMBS;
 use super::limbs::ripple;
 
 // Of the highest limb: a number from here on is negative.
-const TOP_BIT: u64 = 1 << 63;
+pub(crate) const TOP_BIT: u64 = 1 << 63;
 
 // Where a total's units of 2^-1074 stand in the one rounding, which counts from 2^-2340.
 const UNIT: u64 = 1266;

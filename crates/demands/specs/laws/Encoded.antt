@@ -13,15 +13,19 @@ use Rattle.total.specs.laws.Limbs.{N-pos}
 use Rattle.laws.specs.Splice.{splice}
 use Rattle.ledger.specs.Bytes.{bytes, number, fields, read}
 use Rattle.ledger.specs.Sheet.{Row, with_times, row_place, size_for, entries, class_of, totals, count, counts, sum, flat, encode}
-use Rattle.ledger.specs.Calls.{rows_in, row_in, counts_in, total_in, equal, is_sheet_of, is_sheet, miscounted, damaged, function_rungs, rungs, total_refusal, revised, edited}
+use Rattle.ledger.specs.Calls.{rows_in, row_in, counts_in, total_in, equal, is_sheet_of, is_sheet, miscounted, damaged, function_rungs, rungs, row_refusal, total_refusal, revised, edited}
 use Rattle.sheet.specs.Edit.{edit_refusal}
 use Rattle.laws.specs.laws.Splices.{take_past, drop_past}
 use Rattle.ledger.specs.laws.Fields.{length-bytes, length_fields, number-bytes, fields-append}
-use Rattle.ledger.specs.laws.Refusals.{class-lt, length-totals}
+use Rattle.ledger.specs.laws.Refusals.{class-lt, length-row, length-totals, readable, sheet_length}
 use Rattle.demands.specs.laws.Numbers.{read-fields, rows_of}
 use Rattle.demands.specs.Edits.{Edit, answer, answer_in}
 use Rattle.demands.specs.laws.Rows.{Good, Rows, rows_set, rows_sound, length-flat, row-flat, splice-flat}
 use Rattle.demands.specs.laws.Tally.{hit_self, count_has, count-le, counts_all, counts-at, counts-set, sum_moved}
+
+-- a row that can be read has 48 bytes
+pub read_48 : (s : List ℕ) (i : ℕ) → row_refusal s i ≡ 0 → length (row_in s i) ≡ 48
+read_48 s i h = let k = readable s i h in length-row s (sheet_length s k.0) i k.1
 
 -- ---- contents
 eight : (r : ℕ) → length (entries with_times r) ≡ 8

@@ -9,9 +9,9 @@ use borrow.Author.Tests.{lt-leb, eq-eqb}
 use Rattle.text.specs.Text.{decimal}
 use Rattle.ledger.specs.Sheet.{Row, most_rows, encode}
 use Rattle.ledger.specs.Calls.{row_in, row_refusal, read_of, times_of}
-use Rattle.ledger.specs.laws.Refusals.{sheet_with_times, read_48}
+use Rattle.ledger.specs.laws.Refusals.{sheet_with_times}
 use Rattle.demands.specs.laws.Rows.{Rows}
-use Rattle.demands.specs.laws.Encoded.{rows_in_lem, takes_edits, row_in_lem}
+use Rattle.demands.specs.laws.Encoded.{read_48, rows_in_lem, takes_edits, row_in_lem}
 use Rattle.hexpage.specs.HexPage.{row_line, row_lines, count_line, text_of}
 use Rattle.hexkept.specs.laws.Rows.{line_in, row-line}
 

@@ -1,8 +1,9 @@
 -- A row's words are what its bytes say. Assumes nothing.
-use Rattle.std.specs.Prelude.{◌≡◌, ℕ, zero, suc, ◌+◌, ◌*◌, ◌^◌, ◌<◌, List, [], ◌∷◌, ◌++◌, length, take, drop, get_or}
+use Rattle.std.specs.Prelude.{◌≡◌, refl, ℕ, zero, suc, ◌+◌, ◌*◌, ◌/◌, ◌%◌, ◌^◌, ◌<◌, List, [], ◌∷◌, ◌++◌, length, take, drop, get_or}
 use Rattle.std.proofs.Common.{ap, ◌∙◌, mul-suc, arith, take_at}
 use Rattle.std.proofs.Math.Seq.{drop-append-add}
 use Rattle.ledger.specs.Bytes.{bytes, number, fields, pattern_at}
+use Rattle.ledger.specs.Sheet.{refusal_in}
 use Rattle.ledger.specs.laws.Fields.{length-bytes, length_fields, number-bytes, pattern_there}
 
 -- word k stands in its eight bytes
@@ -21,3 +22,9 @@ pattern_words l k h small =
     pattern_there (fields 8 l) (8 * k) (omega (arith, length_fields 8 l))
     ∙ ap number (word_at l k h)
     ∙ number-bytes 8 (get_or l k 0) small
+
+-- the second byte is the refusal
+pub refusal_words : (l : List ℕ) → length l ≡ 6 → get_or l 0 0 / 256 % 256 ≡ refusal_in (fields 8 l)
+unfolding refusal_in fields bytes
+refusal_words [] h = absurd (let z : ⊥ = omega arith in z)
+refusal_words (x ∷ l) h = refl

@@ -234,9 +234,6 @@ pub readable : (s : List ℕ) (i : ℕ) → row_refusal s i ≡ 0 → (is_sheet 
 unfolding row_refusal
 readable s i h = past_row (is_sheet s) (rows_in s) i h
 
-pub read_48 : (s : List ℕ) (i : ℕ) → row_refusal s i ≡ 0 → length (row_in s i) ≡ 48
-read_48 s i h = let k = readable s i h in length-row s (sheet_length s k.0) i k.1
-
 -- 7 decides whether bytes are a sheet
 module _ (s : List ℕ) (q : ℕ) (e : q ≡ total_refusal s) where
   pub no_sheet : (q ≡ 0 → ⊥) → is_sheet s ≡ false

@@ -1,8 +1,8 @@
 -- A row as six words of eight bytes: what they say. Assumes nothing.
-use Rattle.std.specs.Prelude.{◌≡◌, refl, List, [], ◌∷◌, ℕ, ◌+◌, ◌*◌, ◌/◌, ◌%◌, ◌<◌, length, get_or}
+use Rattle.std.specs.Prelude.{◌≡◌, refl, List, ◌∷◌, ℕ, ◌+◌, ◌*◌, ◌/◌, ◌%◌, ◌<◌}
 use Rattle.std.proofs.Common.{arith}
 use Rattle.ledger.specs.Bytes.{bytes, fields}
-use Rattle.ledger.specs.Sheet.{refusal_in, row_bytes}
+use Rattle.ledger.specs.Sheet.{row_bytes}
 
 -- the first word is function, refusal number and times
 pub row_words : (f q k : ℕ) (xs : List ℕ) → f < 256 → q < 256 → k < 65536 → fields 8 ((f + 256 * q + 65536 * k) ∷ xs) ≡ row_bytes f q k xs
@@ -14,8 +14,3 @@ row_words f q k xs h g l =
     let d : (q + 256 * k) / 256 ≡ k = omega arith in
     let e : k / 256 / 256 ≡ 0 = omega arith in
     rw (a, b, c, d, e)
-
-pub refusal_words : (l : List ℕ) → length l ≡ 6 → get_or l 0 0 / 256 % 256 ≡ refusal_in (fields 8 l)
-unfolding refusal_in fields bytes
-refusal_words [] h = absurd (let z : ⊥ = omega arith in z)
-refusal_words (x ∷ l) h = refl

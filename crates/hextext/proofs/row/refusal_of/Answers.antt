@@ -1,5 +1,5 @@
 -- The second byte of the first word.
-use Rattle.ledger.specs.laws.Rows.{refusal_words}
+use Rattle.hextext.specs.laws.Words.{refusal_words}
 use Rattle.hextext.proofs.row.refusal_of.Goals as goal
 
 pub returns : goal.returns

@@ -4,5 +4,5 @@ use Rattle.total.proofs.Total.size.Goals as goal
 
 pub returns : goal.returns
 unfolding signed_of
-returns c = let s = c.sized-negative in
+returns c = let s = c.sized in
     ((λ i. record { negative = s.ensures.0 i; limbs = s.ensures.1 i }), s.ensures.2)

@@ -1,6 +1,6 @@
 -- From 2^2175 on the number is negative, and its size is N less it.
 use borrow.Author.Tests.{lt-leb}
-use Rattle.std.proofs.Common.{◌≡◌, true, false, get_or, refl, length, le-leb, arith, rules}
+use Rattle.std.proofs.Common.{◌≡◌, get_or, refl, length, le-leb, rules}
 use Rattle.total.specs.Total.{val, Half, size_of_total}
 use Rattle.total.specs.laws.Limbs.{Fit, limbs_val}
 use Rattle.total.proofs.TopLimbs.{plus, minus, size_minus}

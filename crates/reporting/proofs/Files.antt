@@ -55,12 +55,12 @@ module _ (n : ℕ) (r : Report) (name bytes : List ℕ) (named : Called (words n
 
 -- ---- files so far
 
--- one more, in its place
-pub took_more : {i : ℕ} {r new : Report} (fates : List Fate) {f : Fate} → i < length fates → Took i r (take i fates) → Met (i + 1) r new f
-    → Took (i + 1) new (take (i + 1) (set fates i f))
-took_more {i} {r} {new} fates {f} there t m =
-    let all : take (i + 1) (set fates i f) ≡ take i fates ++ (f ∷ []) = rw add-one (take-suc-set fates i f there) in
-    rw all (Took.more t m)
+-- one more, in its place: what was met, kept as it was
+pub took_more : {i : ℕ} {r new kept : Report} (fates : List Fate) {f g : Fate} → i < length fates → Took i r (take i fates) → Met (i + 1) r new f → new ≡ kept → f ≡ g
+    → Took (i + 1) kept (take (i + 1) (set fates i g))
+took_more {i} fates {f} {g} there t m same alike =
+    let all : take (i + 1) (set fates i g) ≡ take i fates ++ (g ∷ []) = rw add-one (take-suc-set fates i g there) in
+    rw (all, ← same, ← alike) (Took.more t m)
 
 -- ---- lines so far
 

@@ -82,9 +82,9 @@ above p by h = shr-shr p 1 (127 - by) ∙ up (127 - by) (omega arith)
     up : (rest : ℕ) → 1 + rest + by ≡ 128 → p / 2 ^ (1 + rest) ≡ p * 2 ^ by / 2 ^ 128
     up rest e = sym (ap (λ (z : ℕ). p * 2 ^ by / z) (ap (λ (z : ℕ). 2 ^ z) (sym e) ∙ pow-add 2 (1 + rest) by) ∙ mul-div-mul_right p (2 ^ (1 + rest)) (pow_pos by))
 
-pub words_are : (p by : ℕ) → by < 64 → val (p * 2 ^ by % 2 ^ 128 % 2 ^ 64 ∷ p * 2 ^ by % 2 ^ 128 / 2 ^ 64 ∷ p / 2 / 2 ^ (127 - by) ∷ []) ≡ p * 2 ^ by
+pub words_are : (p by n : ℕ) → by < 64 → p ≡ n → val (p * 2 ^ by % 2 ^ 128 % 2 ^ 64 ∷ p * 2 ^ by % 2 ^ 128 / 2 ^ 64 ∷ p / 2 / 2 ^ (127 - by) ∷ []) ≡ n * 2 ^ by
 unfolding val
-words_are p by h = rw (above p by h)
+words_are p by n h q = rw (← q, above p by h)
     (join 0x1_0000_0000_0000_0000 _ _ (p * 2 ^ by / 2 ^ 128) (p * 2 ^ by % 2 ^ 128) (p * 2 ^ by) (mod-add-div (p * 2 ^ by % 2 ^ 128) (2 ^ 64)) (mod-add-div (p * 2 ^ by) (2 ^ 128)))
   where
     join : (w low middle high x n : ℕ) → low + w * middle ≡ x → x + w * w * high ≡ n → low + w * (middle + w * (high + w * 0)) ≡ n

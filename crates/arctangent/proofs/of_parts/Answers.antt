@@ -1,6 +1,7 @@
 -- `of_parts` meets its contract: the test on the exponent is that on 1/4, and each way rounds once (`Reaching`).
 use mathlib.Core.Path.{sym, ◌∙◌, subst}
-use Prim.Native.Nat.{◌-◌, ◌*◌, ◌^◌, ◌≤◌, ◌<◌}
+use Rattle.std.proofs.Common.{◌≡◌, arith}
+use Prim.Native.Nat.{◌-◌, ◌*◌, ◌/◌, ◌^◌, ◌≤◌, ◌<◌}
 use native.Mathlib.Nat.{lt_of_lt_of_le, le_of_lt}
 use lib.Dec.{lit≤}
 use lib.Pow.{pow_pos}
@@ -34,8 +35,11 @@ returns-then-p-ge1020 c =
 small : (c : Else-p-ge1020) → 4 * (c.args.p.digits * 2 ^ c.args.p.exponent) < 2 ^ 1074
 small c = below-quarter c.args.p.digits c.args.p.exponent c.args.p.digits_fit c.if-p-ge1020.false
 
+cut : (c : After-fixed) → c.fixed.result ≡ c.args.p.digits * 2 ^ c.args.p.exponent * 2 ^ 64 / 2 ^ 1074
+cut c = grind arith
+
 fraction : (c : After-fixed) → c.fixed.result ≤ 2 ^ 62
-fraction c = let p = c.args.p in fraction_le (p.digits * 2 ^ p.exponent) (2 ^ 1074) (le_of_lt (below-quarter p.digits p.exponent p.digits_fit c.if-p-ge1020.false)) (pow_pos 1074) c.fixed.result c.fixed.ensures
+fraction c = let p = c.args.p in fraction_le (p.digits * 2 ^ p.exponent) (2 ^ 1074) (le_of_lt (below-quarter p.digits p.exponent p.digits_fit c.if-p-ge1020.false)) (pow_pos 1074) c.fixed.result (cut c)
 
 pub factor-f-requires : goal.factor-f-requires
 factor-f-requires c = fraction (goal.at.factor-f-requires c).After-fixed
@@ -47,5 +51,5 @@ pub returns : goal.returns
 returns c =
     let p = c.args.p in
     let g = c.factor-f.result in
-    is_small p.negative (p.digits * 2 ^ p.exponent) (2 ^ 1074) c.fixed.result g c.rounded.result (small (goal.at.returns c).Else-p-ge1020) c.fixed.ensures c.factor-f.ensures
+    is_small p.negative (p.digits * 2 ^ p.exponent) (2 ^ 1074) c.fixed.result g c.rounded.result (small (goal.at.returns c).Else-p-ge1020) (cut (goal.at.returns c).After-fixed) c.factor-f.ensures
     (c.rounded.ensures ∙ product_rounded p.negative 63 p.digits p.exponent (g.added - g.taken) c.product-v.result (lit≤ tt) c.product-v.ensures)

@@ -1,7 +1,8 @@
 -- Zero is one digit; any other number is its sign, its highest limb's digits, and all digits of the limbs below.
-use Rattle.std.proofs.Common.{◌≡◌, [], ◌∷◌, ◌++◌, ◌+◌, ◌*◌, true, false, ℕ, List, length, take, get_or, ap, ◌∙◌, le-ltb, lt-ltb, arith, length-take-le, append_assoc}
+use Rattle.std.proofs.Common.{◌≡◌, [], ◌∷◌, ◌++◌, ◌+◌, ◌*◌, true, false, ℕ, List, length, take, get_or, ap, ◌∙◌, le-ltb, lt-ltb, subst, arith, length-take-le, append_assoc}
 use Rattle.total.specs.Total.{val}
 use Rattle.text.specs.Text.{digits_of}
+use Rattle.text.specs.Writing.{Put}
 use Rattle.text.specs.laws.Digits.{digits-length}
 use Rattle.text.specs.laws.Room.{has}
 use Rattle.text.specs.laws.Writing.{puts_all}
@@ -16,7 +17,8 @@ returns-in_default c =
     let n = val a.limbs.now in
     let room = has _ (length a.out.now) a.at 546 c.lacks.ensures c.if-lacks.false in
     let none = le-ltb 0 n (omega (arith, c.in_default.ensures)) in
-    puts_all a.out.now a.at 546 (signed_hex a.negative n ++ (a.after ∷ [])) room (rw (← (unsigned a.negative n none)) (c.put_bytes.ensures.put (omega arith)))
+    puts_all a.out.now a.at 546 (signed_hex a.negative n ++ (a.after ∷ [])) room
+    (rw (← (unsigned a.negative n none)) (subst (Put a.out.now c.put_bytes.new.out a.at c.put_bytes.result) (grind arith) (c.put_bytes.ensures.put (grind arith))))
 
 pub put_limbs-rest-requires : goal.put_limbs-rest-requires
 put_limbs-rest-requires c =

@@ -1,5 +1,5 @@
 -- By cases.
-use Rattle.std.proofs.Common.{◌≡◌, refl, ap, ◌∙◌}
+use Rattle.std.proofs.Common.{◌≡◌, refl, arith}
 use denote.Enum.Declared.{tag_of}
 use Rattle.ledger.specs.contracts.row.Class.{the_type}
 use Rattle.ledger.specs.declared.row.Class.{Class}
@@ -16,8 +16,8 @@ tag MinusInfinity = refl
 tag Refused = refl
 
 pub returns-in-Some : goal.returns-in-Some
-unfolding class_number
-returns-in-Some c = rw c.in-Some.is (tag c.in-Some.class)
+unfolding class_number number_of
+returns-in-Some c = rw c.in-Some.is (grind (arith, tag c.in-Some.class))
 
 pub returns-in-None : goal.returns-in-None
 unfolding class_number

@@ -1,5 +1,5 @@
 -- No sheet, or the first of its rows.
-use Rattle.std.proofs.Common.{◌≡◌, ◌<◌, ◌≤◌, true, false, not, sym, ap, ◌∙◌, ℕ, arith, rules, tests}
+use Rattle.std.proofs.Common.{◌≡◌, ◌<◌, ◌≤◌, true, false, not, sym, ◌∙◌, ℕ, arith, rules, tests}
 use Rattle.std.proofs.lemmas.Iterator.{first_from_Range}
 use Rattle.ledger.specs.laws.Refusals.{sheet_few, sheet_refused, sheet_taken}
 use Rattle.inspection.specs.Rows.{sound_row, first_rejected, rejected_row}
@@ -21,4 +21,4 @@ returns c =
     let s = c.args.sheet.now in
     let rejects = λ (i : ℕ). not (sound_row s i) in
     let first = first_from_Range _ _ _ c.find.result (λ i. rejects i ≡ true) (λ i. rejects i ≡ false) c.find.ensures.ran (λ x q k. search (rules, tests)) (λ x q k. search (rules, tests)) in
-    rw (sheet_taken s _ c.total_refusal.ensures (sym c.if-is_err.ensures.value), ← c.rows_in-rows.ensures) (found rejects _ _ first)
+    rw (sheet_taken s _ c.total_refusal.ensures (sym c.if-is_err.ensures.value), ← c.rows_in-rows.ensures) (grind arith ∙ found rejects _ _ first)

@@ -1,4 +1,5 @@
 -- Each number that is none ends it as the definition's `given` does; the three conversions are the definition's tests.
+use Rattle.std.proofs.Common.{arith}
 use Rattle.line.specs.Line.{given, edit_from}
 use Rattle.line.proofs.Fitting.{fitted, unfitted}
 use Rattle.line.proofs.edit_from.Goals as goal
@@ -30,19 +31,28 @@ returns-in_err-times c = simp (c.from_residual-in_err-times.ensures, c.in_err-ti
 pub returns-in_err-ok : goal.returns-in_err-ok
 unfolding edit_from given
 returns-in_err-ok c =
-    simp (c.from_residual-in_err-ok.ensures, c.in_ok-row.was, c.in_ok-function.was, c.in_ok-a.was, c.in_ok-b.was, c.in_ok-c.was, c.in_ok-times.was, unfitted c.try_from.result c.in_ok-row.row 4294967296 c.try_from.ensures c.in_err-ok.ensures.value)
+    let row = unfitted c.try_from.result c.in_ok-row.row _ 4294967296 c.try_from.ensures c.in_err-ok.ensures.value (λ h. omega arith) in
+    simp (c.from_residual-in_err-ok.ensures, c.in_ok-row.was, c.in_ok-function.was, c.in_ok-a.was, c.in_ok-b.was, c.in_ok-c.was, c.in_ok-times.was, row)
 
 pub returns-in_err-ok-2 : goal.returns-in_err-ok-2
 unfolding edit_from given
 returns-in_err-ok-2 c =
-    simp (c.from_residual-in_err-ok-2.ensures, c.in_ok-row.was, c.in_ok-function.was, c.in_ok-a.was, c.in_ok-b.was, c.in_ok-c.was, c.in_ok-times.was, (fitted c.try_from.result c.in_ok-row.row 4294967296 _ c.try_from.ensures c.in_ok-ok.ensures.value).1, unfitted c.try_from-2.result c.in_ok-function.function 256 c.try_from-2.ensures c.in_err-ok-2.ensures.value)
+    let row = fitted c.try_from.result c.in_ok-row.row _ 4294967296 _ c.try_from.ensures c.in_ok-ok.ensures.value (λ h. omega arith) in
+    let function = unfitted c.try_from-2.result c.in_ok-function.function _ 256 c.try_from-2.ensures c.in_err-ok-2.ensures.value (λ h. omega arith) in
+    simp (c.from_residual-in_err-ok-2.ensures, c.in_ok-row.was, c.in_ok-function.was, c.in_ok-a.was, c.in_ok-b.was, c.in_ok-c.was, c.in_ok-times.was, row.1, function)
 
 pub returns-in_err-ok-3 : goal.returns-in_err-ok-3
 unfolding edit_from given
 returns-in_err-ok-3 c =
-    simp (c.from_residual-in_err-ok-3.ensures, c.in_ok-row.was, c.in_ok-function.was, c.in_ok-a.was, c.in_ok-b.was, c.in_ok-c.was, c.in_ok-times.was, (fitted c.try_from.result c.in_ok-row.row 4294967296 _ c.try_from.ensures c.in_ok-ok.ensures.value).1, (fitted c.try_from-2.result c.in_ok-function.function 256 _ c.try_from-2.ensures c.in_ok-ok-2.ensures.value).1, unfitted c.try_from-3.result c.in_ok-times.times 65536 c.try_from-3.ensures c.in_err-ok-3.ensures.value)
+    let row = fitted c.try_from.result c.in_ok-row.row _ 4294967296 _ c.try_from.ensures c.in_ok-ok.ensures.value (λ h. omega arith) in
+    let function = fitted c.try_from-2.result c.in_ok-function.function _ 256 _ c.try_from-2.ensures c.in_ok-ok-2.ensures.value (λ h. omega arith) in
+    let times = unfitted c.try_from-3.result c.in_ok-times.times _ 65536 c.try_from-3.ensures c.in_err-ok-3.ensures.value (λ h. omega arith) in
+    simp (c.from_residual-in_err-ok-3.ensures, c.in_ok-row.was, c.in_ok-function.was, c.in_ok-a.was, c.in_ok-b.was, c.in_ok-c.was, c.in_ok-times.was, row.1, function.1, times)
 
 pub returns : goal.returns
 unfolding edit_from given
 returns c =
-    simp (c.in_ok-row.was, c.in_ok-function.was, c.in_ok-a.was, c.in_ok-b.was, c.in_ok-c.was, c.in_ok-times.was, (fitted c.try_from.result c.in_ok-row.row 4294967296 _ c.try_from.ensures c.in_ok-ok.ensures.value).1, (fitted c.try_from-2.result c.in_ok-function.function 256 _ c.try_from-2.ensures c.in_ok-ok-2.ensures.value).1, (fitted c.try_from-3.result c.in_ok-times.times 65536 _ c.try_from-3.ensures c.in_ok-ok-3.ensures.value).1, (fitted c.try_from.result c.in_ok-row.row 4294967296 _ c.try_from.ensures c.in_ok-ok.ensures.value).0, (fitted c.try_from-2.result c.in_ok-function.function 256 _ c.try_from-2.ensures c.in_ok-ok-2.ensures.value).0, (fitted c.try_from-3.result c.in_ok-times.times 65536 _ c.try_from-3.ensures c.in_ok-ok-3.ensures.value).0)
+    let row = fitted c.try_from.result c.in_ok-row.row _ 4294967296 _ c.try_from.ensures c.in_ok-ok.ensures.value (λ h. omega arith) in
+    let function = fitted c.try_from-2.result c.in_ok-function.function _ 256 _ c.try_from-2.ensures c.in_ok-ok-2.ensures.value (λ h. omega arith) in
+    let times = fitted c.try_from-3.result c.in_ok-times.times _ 65536 _ c.try_from-3.ensures c.in_ok-ok-3.ensures.value (λ h. omega arith) in
+    simp (c.in_ok-row.was, c.in_ok-function.was, c.in_ok-a.was, c.in_ok-b.was, c.in_ok-c.was, c.in_ok-times.was, row.1, function.1, times.1, row.0, function.0, times.0)

@@ -1,8 +1,9 @@
 -- The number of the row's class.
-use Rattle.std.proofs.Common.{ap, ◌∙◌}
-use Rattle.ledger.specs.Class.{class_number}
-use Rattle.inspection.specs.laws.Class.{class_known}
+use Rattle.std.proofs.Common.{arith}
+use Rattle.inspection.specs.laws.Class.{class_known, class_le}
 use Rattle.shuttlemint.proofs.sm_row_class.Goals as goal
 
 pub returns : goal.returns
-returns c = c.class_number.ensures ∙ ap class_number c.row_class.ensures ∙ class_known c.args.sheet.now c.args.row
+returns c =
+    let a = c.args in
+    grind (arith, class_known a.sheet.now a.row, class_le a.sheet.now a.row)

@@ -5,7 +5,6 @@ use lib.Dec.{lit≤}
 use Rattle.line.specs.Line.{decimal_of}
 use Rattle.line.specs.laws.Few.{few}
 use Rattle.line.proofs.digits.decimal.Goals as goal
-use Rattle.line.proofs.digits.decimal.Goals.{in_default-via-then-s-lt2, in_default-via-else-s-lt2+in_default-1}
 
 pub returns-then-s-gt10 : goal.returns-then-s-gt10
 unfolding decimal_of
@@ -15,7 +14,7 @@ pub returns-in_default : goal.returns-in_default
 unfolding decimal_of
 returns-in_default c =
     let e = few 10 c.args.s.now (lit≤ tt) (omega arith) in
-    elim c.in_default.branch [ in_default-via-then-s-lt2 w ↦ grind (arith, nat_tests, e) | in_default-via-else-s-lt2+in_default-1 w ↦ grind (arith, nat_tests, e) ]
+    grind (arith, nat_tests, e)
 
 pub returns-in-empty : goal.returns-in-empty
 unfolding decimal_of

@@ -1,5 +1,5 @@
 -- The words, then none, or the pattern and its place.
-use Rattle.std.proofs.Common.{◌+◌, ◌++◌, append_assoc, length, arith}
+use Rattle.std.proofs.Common.{◌≡◌, Some, None, ◌+◌, ◌++◌, append_assoc, length, arith}
 use Rattle.laws.specs.Ascii.{ascii}
 use Rattle.text.specs.Text.{pattern, space}
 use Rattle.text.specs.laws.Digits.{pattern-most}
@@ -14,7 +14,8 @@ returns-in_default c =
     let s = a.out.now in
     let w = a.words.now in
     let first = piece s a.at (length w) w (omega arith) (omega arith) c.put_bytes-a.ensures in
-    rw c.in_default.is
+    let none : a.extreme ≡ None = grind arith in
+    rw none
     (looser s a.at (length w + 5) (length w + 69) (w ++ ascii "none\n") (omega arith) (follow s a.at (length w) 5 w (ascii "none\n") (omega arith) (omega arith) first c.put_bytes.ensures))
 
 pub put_place-requires : goal.put_place-requires
@@ -39,4 +40,5 @@ returns c =
     let first = piece s a.at (length w) w (omega arith) (omega arith) c.put_bytes-a.ensures in
     let both = follow s a.at (length w) 17 w x (pattern-most e.pattern 32) (omega arith) first c.put_pattern-b.ensures in
     let all = looser s a.at (length w + 17 + 52) (length w + 69) (w ++ x ++ place) (omega arith) (join s a.at (length w + 17) 52 (w ++ x) place (omega arith) both c.put_place.ensures) in
-    rw c.in-Some.is (simp append_assoc (simp append_assoc at all))
+    let some : a.extreme ≡ Some e = grind arith in
+    rw some (simp append_assoc (simp append_assoc at all))

@@ -11,8 +11,8 @@ pub loop-i-preserved : goal.loop-i-preserved
 loop-i-preserved c =
     let l = c.loop-i in
     elim c.match-fate.branch [
-      | in-Err w ↦ rw w.sent-is (told-all_more l.i c.args.fates.now (Ok tt) (omega arith) l.invariant w.in-Err.is w.put_file-sent.ensures)
-      | in_default w ↦ rw w.sent-is (told-all_taken l.i c.args.fates.now (Ok tt) (omega arith) l.invariant w.in_default.is)
+      | in-Err w ↦ rw w.sent-is (told-all_more l.i c.args.fates.now (Ok tt) (omega arith) l.invariant (grind arith) w.put_file-sent.ensures)
+      | in_default w ↦ rw w.sent-is (told-all_taken l.i c.args.fates.now (Ok tt) (omega arith) l.invariant {u = tt} (grind arith))
     ]
 
 pub returns : goal.returns

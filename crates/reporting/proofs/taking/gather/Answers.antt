@@ -10,7 +10,7 @@ loop-i-init c = rw c.start-report.ensures Took.none
 pub loop-i-preserved : goal.loop-i-preserved
 loop-i-preserved c =
     let l = c.loop-i in
-    took_more l.fates (omega arith) l.invariant c.take_file.ensures
+    took_more l.fates (omega arith) l.invariant c.take_file.ensures (grind arith) (grind arith)
 
 pub returns : goal.returns
 returns c =

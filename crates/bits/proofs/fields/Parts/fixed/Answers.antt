@@ -1,5 +1,5 @@
 -- `fixed` meets its contract: one law of units for each way (`Units`).
-use Rattle.std.proofs.Common.{◌≡◌, ℕ, ◌+◌, ◌-◌, ◌≤◌, arith}
+use Rattle.std.proofs.Common.{◌≡◌, ℕ, ◌+◌, ◌-◌, ◌/◌, ◌^◌, ◌≤◌, ap, ◌∙◌, arith}
 use Rattle.bits.specs.laws.Units.{moved_up, moved_down, moved_out}
 use Rattle.bits.proofs.fields.Parts.fixed.Goals as goal
 
@@ -17,7 +17,7 @@ pub returns-then-below-lt64 : goal.returns-then-below-lt64
 returns-then-below-lt64 c =
     let a = c.args in
     let p = a.self in
-    moved_down a.places (1074 - a.places) (whole a.places c.requires.0) p.digits p.exponent p.digits_fit c.if-self-unit.false
+    ap (λ (j : ℕ). p.digits / 2 ^ j) (omega arith) ∙ moved_down a.places (1074 - a.places) (whole a.places c.requires.0) p.digits p.exponent p.digits_fit c.if-self-unit.false
 
 pub returns-else-below-lt64 : goal.returns-else-below-lt64
 returns-else-below-lt64 c =

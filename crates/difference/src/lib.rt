@@ -128,7 +128,9 @@ pub fn stopped(old: &[u8], new: &[u8]) -> Result<(), Stop>
 pub fn agreeing(old: &[u8], new: &[u8], row: u32) -> bool
     ensures { result ≡ agree old.now new.now row }
 {
-    ledger::read_row(old, row) == ledger::read_row(new, row)
+    let before = ledger::read_row(old, row);
+    let after = ledger::read_row(new, row);
+    before == after
 }
 
 fn is_finite(pattern: u64) -> bool

@@ -42,4 +42,4 @@ unfolding stopped_of
 returns c =
     let a = c.args in
     let n : stopped 0 0 ≡ stop_of (is_forth a.way) a.sheet.now = grind arith in
-    (n, c.turn_rows.ensures ∙ sheet_turned (is_forth a.way) a.sheet.now _ _ _ c.word_after.ensures c.rows_in-rows.ensures c.say.ensures ∙ sym (converted_is (is_forth a.way) a.sheet.now (sym (ap (λ (t : Stopped). t.refusal) n))))
+    (grind arith ∙ n, c.turn_rows.ensures ∙ sheet_turned (is_forth a.way) a.sheet.now _ _ _ c.word_after.ensures c.rows_in-rows.ensures c.say.ensures ∙ sym (converted_is (is_forth a.way) a.sheet.now (sym (ap (λ (t : Stopped). t.refusal) n))))

@@ -1,5 +1,5 @@
 -- Test by test, in their order.
-use Rattle.std.proofs.Common.{◌≡◌, ◌∙◌, refl, sym, ap, arith, rules}
+use Rattle.std.proofs.Common.{◌≡◌, Some, None, ◌∙◌, refl, sym, ap, arith, rules}
 use Rattle.ledger.specs.laws.Refusals.{sheet_of_few}
 use Rattle.inspection.specs.laws.First.{found_some, found_none}
 use Rattle.conversion.specs.declared.Way.TheVariants.{Forth, Back}
@@ -50,7 +50,8 @@ returns-in-Some-often c =
     let a = c.args in
     let h = said a.sheet.now (is_forth a.way) _ _ c.word_before.ensures c.says.ensures ∙ c.if-not-says.false in
     let k = found_none _ _ _ c.first_rejected-damaged.ensures c.in_default.is in
-    let o = found_some _ _ _ c.first_oftener-often.ensures _ c.in-Some-often.is in
+    let e : c.first_oftener-often.result ≡ Some c.in-Some-often.row = grind arith in
+    let o = found_some _ _ _ c.first_oftener-often.ensures _ e in
     let f : a.way ≡ Back = search rules in
     stop_17 (is_forth a.way) a.sheet.now h _ _ c.rows_in-rows.ensures refl k (sym c.is_uncounted.ensures ∙ c.if-is_uncounted.false) (ap is_forth f) _ o.0 (rw o.0 o.1)
 
@@ -60,6 +61,7 @@ returns-in-None c =
     let a = c.args in
     let h = said a.sheet.now (is_forth a.way) _ _ c.word_before.ensures c.says.ensures ∙ c.if-not-says.false in
     let k = found_none _ _ _ c.first_rejected-damaged.ensures c.in_default.is in
-    let o = found_none _ _ _ c.first_oftener-often.ensures c.in-None.is in
+    let e : c.first_oftener-often.result ≡ None = grind arith in
+    let o = found_none _ _ _ c.first_oftener-often.ensures e in
     let f : a.way ≡ Back = search rules in
     stop_0 (is_forth a.way) a.sheet.now h _ _ c.rows_in-rows.ensures refl k (sym c.is_uncounted.ensures ∙ c.if-is_uncounted.false) (ap is_forth f) _ refl o

@@ -1,5 +1,6 @@
 -- The line instead, or the page of the sheet in its memory.
-use Rattle.std.proofs.Common.{◌≡◌, true, false, refl, sym, ap, ◌∙◌}
+use Rattle.std.proofs.Common.{◌≡◌, true, false, refl, sym, ap, ◌∙◌, subst, arith}
+use Rattle.text.specs.Writing.{Put}
 use Rattle.ending.specs.Outcome.{state_of}
 use Rattle.ending.specs.laws.Texts.{instead, shown}
 use Rattle.ending.proofs.outcome.put_text.Goals as goal
@@ -10,7 +11,8 @@ returns-in-Err-clause-put g c =
 
 pub returns-in-Ok-clause-put : goal.returns-in-Ok-clause-put
 returns-in-Ok-clause-put g c =
-    rw c.in-Ok.is (rw (← instead g.P.Page.text c.in-Ok.st c.args.sheet.now false c.if-st.true) (rw c.in-Ok.is at c.put_instead-in-Ok.ensures.put))
+    let i = c.put_instead-in-Ok in
+    rw c.in-Ok.is (rw (← instead g.P.Page.text c.in-Ok.st c.args.sheet.now false c.if-st.true) (subst (Put c.args.out.now i.new.out 0 i.result) (grind arith) i.ensures.put))
 
 pub returns-in-Ok-2-clause-put : goal.returns-in-Ok-2-clause-put
 returns-in-Ok-2-clause-put g c =
